@@ -1,0 +1,11 @@
+-- What the contracts of every crate say loops by, and the laws that their proofs go by.
+--     Turns     loops that count, and loops over a slice: definitions, with the laws of one turn and of the end
+--     Writes    what a slice holds while a loop writes it from the front
+--     Picks     a value that a test picks
+--     Cells     the places of a table that lies in a slice row after row
+--     Parts     a part of a slice that is lent and comes back
+pub mod Turns
+pub mod Writes
+pub mod Picks
+pub mod Cells
+pub mod Parts

@@ -1,0 +1,35 @@
+-- A part of a slice that is lent and comes back.
+--     front        the part `&mut a[..k]` has k places
+--     tail-part    the part `&mut a[st..]` is a from st on
+--     past-tail    what a is when that part has come back as y
+--     get-past, set-past    a read and a write past the front p of a list
+-- Assumes nothing.
+use Prim.Native.Nat.{ℕ, zero, suc, _+_, _-_, _≤_}
+use mathlib.Core.List.{List, [], _∷_, _++_, append-nil}
+use mathlib.Core.Path.{_≡_, refl, sym, ap, _∙_}
+use native.Mathlib.Nat.{suc-add, zero-add}
+use native.Mathlib.Omega.{arith}
+use lib.ListN.{length, getD, take, drop, set, length-drop, drop-of-length-le}
+use lib.Seq.{length-take-le, take-all, getD-append-add}
+
+module _ {A : Type 0} where
+  pub front : (k : ℕ) (a : List A) → k ≤ length a → k ≡ length (take k a)
+  front k a h = sym (length-take-le k a h)
+
+  pub tail-part : (a : List A) (st : ℕ) → take (length a - st) (drop st a) ≡ drop st a
+  tail-part a st = take-all (length a - st) (drop st a) (simp length-drop (omega arith))
+
+  pub past-tail : (a y : List A) (st : ℕ) → take st a ++ (y ++ drop (length a - st) (drop st a)) ≡ take st a ++ y
+  past-tail a y st =
+      let e : length (drop st a) ≤ length a - st = simp length-drop (omega arith) in
+      rw (drop-of-length-le (drop st a) e, append-nil)
+
+  pub get-past : (p t : List A) (st i : ℕ) (d : A) → length p ≡ st → getD (p ++ t) (st + i) d ≡ getD t i d
+  get-past p t st i d e = rw (← e) (getD-append-add p t i d)
+
+  past : (p t : List A) (i : ℕ) (v : A) → set (p ++ t) (length p + i) v ≡ p ++ set t i v
+  past [] t i v = rw zero-add
+  past (x ∷ p) t i v = rw suc-add (ap {B = List A} (λ r. x ∷ r) (past p t i v))
+
+  pub set-past : (p t : List A) (st i : ℕ) (v : A) → length p ≡ st → set (p ++ t) (st + i) v ≡ p ++ set t i v
+  set-past p t st i v e = rw (← e) (past p t i v)

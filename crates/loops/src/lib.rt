@@ -1,0 +1,15 @@
+// How loops are said and proved: the definitions and laws of specs/, which every crate's contracts and proofs cite. The one
+// function is the question that a call on a table in a lent slice begins with.
+ghost use mathlib.Core.Path.{_≡_};
+ghost use Prim.Native.Nat.{_*_};
+ghost use lib.Dec.{leb};
+
+// Whether `len` places hold a table of `rows` rows and `cols` columns, whatever the three numbers are: nothing wraps.
+pub fn holds(len: usize, rows: usize, cols: usize) -> bool
+    ensures { λ r. ⌜ r ≡ leb (rows * cols) len ⌝ }
+{
+    if cols == 0 {
+        return true;
+    }
+    rows <= len / cols
+}
