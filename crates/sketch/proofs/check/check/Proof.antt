@@ -1,0 +1,71 @@
+-- Each answer by the tests that led to it, in document 01's order. Assumes nothing.
+use mathlib.Core.Bool.{not}
+use mathlib.Core.Path.{refl, sym, ap, _∙_}
+use borrow.Author.Needs.{needs}
+use Rattle.loops.specs.Picks.{pick-yes, pick-no}
+use Rattle.sketch.specs.Check.{checkOf}
+use Rattle.sketch.proofs.check.check.Statement.{statement}
+use Rattle.sketch.proofs.check.check.Tie as tie
+
+returns : tie.Need-returns
+unfolding checkOf
+returns c = pick-yes _ _ _ _ (sym (c .before .counts-over .ensures) ∙ c .if1 .taken) refl
+
+build-bounded-requires : tie.Need-build-bounded-requires
+build-bounded-requires c κs = sym (c .before .counts-over .ensures) ∙ c .if1 .left
+
+returns-2 : tie.Need-returns-2
+unfolding checkOf
+returns-2 c =
+    pick-no _ _ _ _ (sym (c .before .before .before .counts-over .ensures) ∙ c .before .before .if1 .left)
+    (pick-yes _ _ _ _ (ap not (sym (c .before .build-bounded .ensures)) ∙ c .if2 .taken) refl)
+
+build-found-requires : tie.Need-build-found-requires
+build-found-requires c κs = sym (c .before .before .before .counts-over .ensures) ∙ c .before .before .if1 .left
+
+returns-3 : tie.Need-returns-3
+unfolding checkOf
+returns-3 c =
+    let d = c .before .before in
+    pick-no _ _ _ _ (sym (d .before .before .before .counts-over .ensures) ∙ d .before .before .if1 .left)
+    (pick-no _ _ _ _ (ap not (sym (d .before .build-bounded .ensures)) ∙ d .if2 .left)
+    (pick-yes _ _ _ _ (ap not (sym (c .before .build-found .ensures)) ∙ c .if3 .taken) refl))
+
+rows-over-requires : tie.Need-rows-over-requires
+rows-over-requires c κs =
+    let d = c .before .before in
+    sym (d .before .before .before .counts-over .ensures) ∙ d .before .before .if1 .left
+
+returns-4 : tie.Need-returns-4
+unfolding checkOf
+returns-4 c =
+    let e = c .before .before in
+    let d = e .before .before in
+    pick-no _ _ _ _ (sym (d .before .before .before .counts-over .ensures) ∙ d .before .before .if1 .left)
+    (pick-no _ _ _ _ (ap not (sym (d .before .build-bounded .ensures)) ∙ d .if2 .left)
+    (pick-no _ _ _ _ (ap not (sym (e .before .build-found .ensures)) ∙ e .if3 .left)
+    (pick-yes _ _ _ _ (sym (c .before .rows-over .ensures) ∙ c .if4 .taken) refl)))
+
+returns-5 : tie.Need-returns-5
+unfolding checkOf
+returns-5 c =
+    let e = c .before .before in
+    let d = e .before .before in
+    pick-no _ _ _ _ (sym (d .before .before .before .counts-over .ensures) ∙ d .before .before .if1 .left)
+    (pick-no _ _ _ _ (ap not (sym (d .before .build-bounded .ensures)) ∙ d .if2 .left)
+    (pick-no _ _ _ _ (ap not (sym (e .before .build-found .ensures)) ∙ e .if3 .left)
+    (pick-no _ _ _ _ (sym (c .before .rows-over .ensures) ∙ c .if4 .left) refl)))
+
+pub check-spec : {M : Type 1} → statement M
+check-spec =
+    tie.close
+    (tie.spec
+    (λ c κs. search needs)
+    returns
+    build-bounded-requires
+    returns-2
+    build-found-requires
+    returns-3
+    rows-over-requires
+    returns-4
+    returns-5)
