@@ -1,2 +1,2 @@
 pub mod Taken
-pub mod Counts
+pub mod Within

@@ -4,7 +4,12 @@ ghost use Prim.Native.Nat.{_≤_};
 ghost use lib.ListN.{take};
 ghost use Rattle.loops.specs.Turns.{every};
 ghost use Rattle.sketch.specs.Indices.{foundLine, foundRad, foundEquation, foundActive, foundMeasure, foundMeasured};
-use crate::{Active, Equation, Line, Measure, Measured, Rad};
+use crate::Active;
+use crate::Equation;
+use crate::Line;
+use crate::Measure;
+use crate::Measured;
+use crate::Rad;
 
 fn line_found(l: Line, n: usize) -> bool
     ensures { λ r. ⌜ r ≡ foundLine n l ⌝ }
@@ -64,7 +69,7 @@ fn measure_found(d: Measure, n: usize, m: usize) -> bool
 }
 
 // Of the first k lines, equations and measures.
-pub fn lines_found(lines: [Line; 40], k: usize, n: usize) -> bool
+pub(crate) fn lines_found(lines: [Line; 40], k: usize, n: usize) -> bool
     requires { ⌜ k ≤ 40 ⌝ }
     ensures { λ r. ⌜ r ≡ every (foundLine n) (take k lines) ⌝ }
 {
@@ -77,7 +82,7 @@ pub fn lines_found(lines: [Line; 40], k: usize, n: usize) -> bool
     true
 }
 
-pub fn equations_found(equations: [Active; 40], k: usize, n: usize, m: usize) -> bool
+pub(crate) fn equations_found(equations: [Active; 40], k: usize, n: usize, m: usize) -> bool
     requires { ⌜ k ≤ 40 ⌝ }
     ensures { λ r. ⌜ r ≡ every (foundActive n m) (take k equations) ⌝ }
 {
@@ -91,7 +96,7 @@ pub fn equations_found(equations: [Active; 40], k: usize, n: usize, m: usize) ->
     true
 }
 
-pub fn measures_found(measures: [Measured; 20], k: usize, n: usize, m: usize) -> bool
+pub(crate) fn measures_found(measures: [Measured; 20], k: usize, n: usize, m: usize) -> bool
     requires { ⌜ k ≤ 20 ⌝ }
     ensures { λ r. ⌜ r ≡ every (foundMeasured n m) (take k measures) ⌝ }
 {

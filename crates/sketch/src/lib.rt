@@ -1,11 +1,15 @@
 // The build: its numbers, points, lines, equations and measures, and the check before a fit (equations.rs, `Eq`, `Rad`,
 // `Contact`, `Equations`, `involved`). What stands past a count is no part of the build and may be anything.
-mod check;
+mod checks;
+mod counts;
 mod indices;
-mod involved;
 mod numbers;
-mod rows;
+mod touches;
+
+pub use checks::check;
+pub use counts::rows;
 use plane::Vec2;
+pub use touches::involved;
 
 // A point number.
 pub struct PointNo(pub usize);
@@ -126,4 +130,3 @@ pub enum Checked {
     Passes,
     Ends(Ending),
 }
-

@@ -4,7 +4,14 @@ ghost use Prim.Native.Nat.{_≤_};
 ghost use lib.ListN.{take};
 ghost use Rattle.loops.specs.Turns.{every};
 ghost use Rattle.sketch.specs.Numbers.{bounded, sized, isSide, boundedVec, boundedState, boundedPoint, boundedRad, boundedContact, boundedEquation, boundedActive, boundedMeasure, boundedMeasured};
-use crate::{Active, Contact, Equation, Measure, Measured, Point, Rad, State};
+use crate::Active;
+use crate::Contact;
+use crate::Equation;
+use crate::Measure;
+use crate::Measured;
+use crate::Point;
+use crate::Rad;
+use crate::State;
 use plane::Vec2;
 
 fn is_bounded(x: f64) -> bool
@@ -13,7 +20,7 @@ fn is_bounded(x: f64) -> bool
     (-1000000.0 <= x) & (x <= 1000000.0)
 }
 
-pub fn is_sized(x: f64) -> bool
+pub(crate) fn is_sized(x: f64) -> bool
     ensures { λ r. ⌜ r ≡ sized x ⌝ }
 {
     (0.0009765625 <= x) & (x <= 1000000.0)
@@ -25,7 +32,7 @@ fn is_side(s: f64) -> bool
     (s == 1.0) | (s == -1.0)
 }
 
-pub fn vec_bounded(p: Vec2) -> bool
+pub(crate) fn vec_bounded(p: Vec2) -> bool
     ensures { λ r. ⌜ r ≡ boundedVec p ⌝ }
 {
     is_bounded(p.x) & is_bounded(p.y)
@@ -79,13 +86,17 @@ fn equation_bounded(e: Equation) -> bool
         Equation::Equal(_, _) => true,
         Equation::Held => true,
         Equation::Distance(_, _, value) => is_bounded(value),
-        Equation::AxisDistance(_, _, axis, value, side) => (axis < 2) & is_bounded(value) & is_side(side),
+        Equation::AxisDistance(_, _, axis, value, side) => (axis < 2)
+            & is_bounded(value)
+            & is_side(side),
         Equation::Length(_, value) => is_bounded(value),
         Equation::PointLine(_, _, value, side) => is_bounded(value) & is_side(side),
         Equation::ArcEnds(_, _, _) => true,
         Equation::Radius(_, _, value) => is_bounded(value),
         Equation::LineCircle(_, _, rad, side) => rad_bounded(rad) & is_side(side),
-        Equation::CircleCircle(_, r1, _, r2, contact) => rad_bounded(r1) & rad_bounded(r2) & contact_bounded(contact),
+        Equation::CircleCircle(_, r1, _, r2, contact) => rad_bounded(r1)
+            & rad_bounded(r2)
+            & contact_bounded(contact),
         Equation::LineArcAt(_, _, _) => true,
         Equation::ArcArcAt(_, _, _) => true,
         Equation::Midpoint(_, _) => true,
@@ -108,7 +119,7 @@ fn measure_bounded(m: Measure) -> bool
 }
 
 // Of the first n points, equations and measures.
-pub fn points_bounded(points: [Point; 40], n: usize) -> bool
+pub(crate) fn points_bounded(points: [Point; 40], n: usize) -> bool
     requires { ⌜ n ≤ 40 ⌝ }
     ensures { λ r. ⌜ r ≡ every boundedPoint (take n points) ⌝ }
 {
@@ -121,7 +132,7 @@ pub fn points_bounded(points: [Point; 40], n: usize) -> bool
     true
 }
 
-pub fn equations_bounded(equations: [Active; 40], n: usize) -> bool
+pub(crate) fn equations_bounded(equations: [Active; 40], n: usize) -> bool
     requires { ⌜ n ≤ 40 ⌝ }
     ensures { λ r. ⌜ r ≡ every boundedActive (take n equations) ⌝ }
 {
@@ -135,7 +146,7 @@ pub fn equations_bounded(equations: [Active; 40], n: usize) -> bool
     true
 }
 
-pub fn measures_bounded(measures: [Measured; 20], n: usize) -> bool
+pub(crate) fn measures_bounded(measures: [Measured; 20], n: usize) -> bool
     requires { ⌜ n ≤ 20 ⌝ }
     ensures { λ r. ⌜ r ≡ every boundedMeasured (take n measures) ⌝ }
 {

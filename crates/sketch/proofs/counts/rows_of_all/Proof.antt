@@ -1,7 +1,7 @@
 -- Each equation adds at most two rows, so the sum fits. Assumes nothing.
 use Prim.Native.Nat.{ℕ, _+_, _*_, _≤_, _<_, _-_}
 use mathlib.Core.List.{List}
-use mathlib.Core.Path.{_≡_, refl, sym, ap, _∙_}
+use mathlib.Core.Path.{_≡_, refl, ap}
 use native.Mathlib.Omega.{arith}
 use borrow.Author.Needs.{needs}
 use lib.Dec.{lit≤}
@@ -11,8 +11,8 @@ use Rattle.loops.specs.Turns.{fold, fold-next, fold-done}
 use Rattle.sketch.specs.Rows.{rowsOf, moreRows}
 use Rattle.sketch.specs.declared.Active.{Active}
 use Rattle.sketch.specs.declared.Equation.{Equation}
-use Rattle.sketch.proofs.rows.rows_of_all.Statement.{statement}
-use Rattle.sketch.proofs.rows.rows_of_all.Tie as tie
+use Rattle.sketch.proofs.counts.rows_of_all.Statement.{statement}
+use Rattle.sketch.proofs.counts.rows_of_all.Tie as tie
 
 two-at-most : (e : Equation) → rowsOf e ≤ 2
 unfolding rowsOf

@@ -1,9 +1,9 @@
 -- Assumes nothing.
 use mathlib.Core.Path.{ap}
 use lib.Dec.{ltb}
-use Rattle.sketch.proofs.Counts.{within}
-use Rattle.sketch.proofs.check.rows_over.Statement.{statement}
-use Rattle.sketch.proofs.check.rows_over.Tie as tie
+use Rattle.sketch.proofs.Within.{within}
+use Rattle.sketch.proofs.checks.rows_over.Statement.{statement}
+use Rattle.sketch.proofs.checks.rows_over.Tie as tie
 
 rows-of-all-requires : tie.Need-rows-of-all-requires
 rows-of-all-requires c κs = let s = c .before in within (s .args .b) (s .pre) .2

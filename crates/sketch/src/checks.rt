@@ -4,10 +4,18 @@ ghost use mathlib.Core.Bool.{false};
 ghost use Rattle.sketch.specs.Check.{overBound, overRows, checkOf};
 ghost use Rattle.sketch.specs.Indices.{foundBuild};
 ghost use Rattle.sketch.specs.Numbers.{boundedBuild};
-use crate::indices::{equations_found, lines_found, measures_found};
-use crate::numbers::{equations_bounded, is_sized, measures_bounded, points_bounded, vec_bounded};
-use crate::rows::rows_of_all;
-use crate::{Build, Checked, Ending};
+use crate::Build;
+use crate::Checked;
+use crate::Ending;
+use crate::counts::rows_of_all;
+use crate::indices::equations_found;
+use crate::indices::lines_found;
+use crate::indices::measures_found;
+use crate::numbers::equations_bounded;
+use crate::numbers::is_sized;
+use crate::numbers::measures_bounded;
+use crate::numbers::points_bounded;
+use crate::numbers::vec_bounded;
 
 fn counts_over(b: Build) -> bool
     ensures { λ r. ⌜ r ≡ overBound b ⌝ }

@@ -1,7 +1,7 @@
 -- Assumes nothing.
-use Rattle.sketch.proofs.Counts.{within}
-use Rattle.sketch.proofs.check.build_found.Statement.{statement}
-use Rattle.sketch.proofs.check.build_found.Tie as tie
+use Rattle.sketch.proofs.Within.{within}
+use Rattle.sketch.proofs.checks.build_found.Statement.{statement}
+use Rattle.sketch.proofs.checks.build_found.Tie as tie
 
 lines-found-requires : tie.Need-lines-found-requires
 lines-found-requires c κs = let s = c .before .before .before in within (s .args .b) (s .pre) .1

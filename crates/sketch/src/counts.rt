@@ -4,7 +4,8 @@ ghost use Prim.Native.Nat.{_≤_};
 ghost use lib.ListN.{take};
 ghost use Rattle.loops.specs.Turns.{fold};
 ghost use Rattle.sketch.specs.Rows.{rowsOf, moreRows};
-use crate::{Active, Equation};
+use crate::Active;
+use crate::Equation;
 
 pub fn rows(e: Equation) -> usize
     ensures { λ r. ⌜ r ≡ rowsOf e ⌝ }
@@ -35,7 +36,7 @@ pub fn rows(e: Equation) -> usize
 }
 
 // The rows of the first n equations.
-pub fn rows_of_all(equations: [Active; 40], n: usize) -> usize
+pub(crate) fn rows_of_all(equations: [Active; 40], n: usize) -> usize
     requires { ⌜ n ≤ 40 ⌝ }
     ensures { λ r. ⌜ r ≡ fold moreRows 0 (take n equations) ⌝ }
 {

@@ -2,7 +2,12 @@
 ghost use mathlib.Core.Path.{_≡_};
 ghost use mathlib.Core.List.{_∷_, [], _++_};
 ghost use Rattle.sketch.specs.Involved.{involvedOf, touchedOf, lineAt, centred, noPoint};
-use crate::{Equation, Line, LineNo, PointNo, Rad, Touched};
+use crate::Equation;
+use crate::Line;
+use crate::LineNo;
+use crate::PointNo;
+use crate::Rad;
+use crate::Touched;
 
 fn line_at(lines: [Line; 40], l: LineNo) -> Line
     ensures { λ r. ⌜ r ≡ lineAt lines l ⌝ }

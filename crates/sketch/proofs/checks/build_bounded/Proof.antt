@@ -1,8 +1,8 @@
 -- Assumes nothing.
 use borrow.Author.Needs.{needs}
-use Rattle.sketch.proofs.Counts.{within}
-use Rattle.sketch.proofs.check.build_bounded.Statement.{statement}
-use Rattle.sketch.proofs.check.build_bounded.Tie as tie
+use Rattle.sketch.proofs.Within.{within}
+use Rattle.sketch.proofs.checks.build_bounded.Statement.{statement}
+use Rattle.sketch.proofs.checks.build_bounded.Tie as tie
 
 points-bounded-requires : tie.Need-points-bounded-requires
 points-bounded-requires c κs =
@@ -21,11 +21,13 @@ measures-bounded-requires c κs =
 
 returns : tie.Need-returns
 returns c =
-    rw (c .measures-bounded .ensures,
-    c .before .equations-bounded .ensures,
-    c .before .before .points-bounded .ensures,
-    c .before .before .before .is-sized .ensures,
-    c .before .before .before .before .vec-bounded .ensures)
+    rw (
+      c .measures-bounded .ensures,
+      c .before .equations-bounded .ensures,
+      c .before .before .points-bounded .ensures,
+      c .before .before .before .is-sized .ensures,
+      c .before .before .before .before .vec-bounded .ensures,
+    )
 
 pub build-bounded-spec : {M : Type 1} → statement M
 build-bounded-spec =
