@@ -23,8 +23,8 @@ pub data Try (S : Type 0) : Type 0 where
   go : S → Try S
   stop : Try S
 
--- the next turn goes on from what this one gives
-abbrev pub after : {S : Type 0} → Try S → (S → Try S) → Try S
+-- what comes next goes on from what there is
+abbrev pub after : {S T : Type 0} → Try S → (S → Try T) → Try T
 after (go s) k = k s
 after stop k = stop
 
