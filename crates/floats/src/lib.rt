@@ -1,0 +1,74 @@
+// What every room needs of f64 and of slices of them. Each function is total, and its promise is an equation.
+ghost use mathlib.Core.Path.{_≡_};
+ghost use lib.ListN.{getD, set};
+ghost use lib.Ieee.{nan};
+ghost use lib.Ieee.Scale.{finite};
+ghost use Rattle.floats.specs.Magnitude.{absOf, magnitudeOf, maxOf};
+
+// x without its sign.
+pub fn abs(x: f64) -> f64
+    ensures { λ r. ⌜ r ≡ absOf x ⌝ }
+{
+    if x < 0.0 {
+        -x
+    } else if x == 0.0 {
+        0.0
+    } else {
+        x
+    }
+}
+
+// Neither a NaN nor an infinity: only those times zero are a NaN.
+pub fn is_finite(x: f64) -> bool
+    ensures { λ r. ⌜ r ≡ finite x ⌝ }
+{
+    x * 0.0 == 0.0
+}
+
+// The larger of a and b; where one is a NaN, the other.
+pub fn max(a: f64, b: f64) -> f64
+    ensures { λ r. ⌜ r ≡ maxOf a b ⌝ }
+{
+    if a < b {
+        b
+    } else if a != a {
+        b
+    } else {
+        a
+    }
+}
+
+// The place of x in the order of magnitudes. A NaN has no bits of its own, so it is tested for first.
+pub fn magnitude(x: f64) -> u64
+    ensures { λ r. ⌜ r ≡ magnitudeOf x ⌝ }
+{
+    let a = abs(x);
+    if a != a {
+        0x7ff8_0000_0000_0000
+    } else {
+        f64::to_bits(a)
+    }
+}
+
+// x as it is handed out: a NaN with the one pattern 7ff8000000000000, which the constant has once compiled.
+pub fn handed_out(x: f64) -> f64
+    ensures { λ r. ⌜ r ≡ x ⌝ }
+{
+    if x != x { 0.0 / 0.0 } else { x }
+}
+
+// What stands at i, and a NaN past the end.
+pub fn get(s: &[f64], i: usize) -> f64
+    ensures { λ r. ⌜ r ≡ getD (now (s .entry)) i nan ⌝ }
+{
+    if i < s.len() { s[i] } else { 0.0 / 0.0 }
+}
+
+// Puts v at i, and does nothing past the end.
+pub fn put(s: &mut [f64], i: usize, v: f64)
+    ensures { λ _. ⌜ now (s .exit) ≡ set (now (s .entry)) i v ⌝ }
+{
+    if i < s.len() {
+        s[i] = v;
+    }
+}

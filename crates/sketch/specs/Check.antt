@@ -1,0 +1,48 @@
+-- What a library build ends in before its fit: document 01's 3, 4, 5 and 6, in 01's order.
+use mathlib.Core.Bool.{Bool, not, cond, _||_}
+use Prim.Native.Nat.{ℕ}
+use lib.Dec.{ltb}
+use Rattle.sketch.specs.Indices.{foundBuild}
+use Rattle.sketch.specs.Numbers.{boundedBuild}
+use Rattle.sketch.specs.Rows.{rowsOfBuild}
+use Rattle.sketch.specs.declared.Build.{Build}
+use Rattle.sketch.specs.declared.Checked.{Checked}
+use Rattle.sketch.specs.declared.Checked.the-variants.{Passes, Ends}
+use Rattle.sketch.specs.declared.Ending.{Ending}
+use Rattle.sketch.specs.declared.Ending.the-variants.{Fitted, TooLong, BadForm, TooMany, OutOfBounds, NoSuchItem, TooManyRows, NotConverged, TooShort}
+
+-- document 01's number of each ending
+abbrev pub numberOf : Ending → ℕ
+numberOf Fitted = 0
+numberOf TooLong = 1
+numberOf BadForm = 2
+numberOf TooMany = 3
+numberOf OutOfBounds = 4
+numberOf NoSuchItem = 5
+numberOf TooManyRows = 6
+numberOf NotConverged = 7
+numberOf TooShort = 9
+
+-- 3: a count over its bound
+abbrev pub overBound : Build → Bool
+overBound b =
+    ltb 40 (b .«point_count») || ltb 40 (b .«line_count») || ltb 40 (b .«equation_count») || ltb 20 (b .«measure_count»)
+
+-- 4: a number of the build not finite or outside its bound
+abbrev pub outOfBounds : Build → Bool
+outOfBounds b = not (boundedBuild b)
+
+-- 5: a point or line number not below its count
+abbrev pub refersToNothing : Build → Bool
+refersToNothing b = not (foundBuild b)
+
+-- 6: more than 64 residual rows
+abbrev pub overRows : Build → Bool
+overRows b = ltb 64 (rowsOfBuild b)
+
+unfoldable pub checkOf : Build → Checked
+checkOf b =
+    cond (overBound b) (Ends TooMany)
+    (cond (outOfBounds b) (Ends OutOfBounds)
+    (cond (refersToNothing b) (Ends NoSuchItem)
+    (cond (overRows b) (Ends TooManyRows) Passes)))

@@ -1,0 +1,6 @@
+pub mod Parts
+pub mod Numbers
+pub mod Indices
+pub mod Rows
+pub mod Involved
+pub mod Check

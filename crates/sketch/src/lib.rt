@@ -1,0 +1,126 @@
+// The build: its numbers, points, lines, equations and measures, and the check before a fit (equations.rs, `Eq`, `Rad`,
+// `Contact`, `Equations`, `involved`). What stands past a count is no part of the build and may be anything.
+ghost use mathlib.Core.Path.{_≡_};
+ghost use Rattle.sketch.specs.Check.{checkOf, overOf};
+use plane::Vec2;
+
+// A point number.
+pub struct PointNo(pub usize);
+
+// A line number.
+pub struct LineNo(pub usize);
+
+// A position among the free coordinates.
+pub struct FreeNo(pub usize);
+
+// A point moves, stays where it was drawn, or stands at a place given for it.
+pub enum State {
+    Free,
+    Kept,
+    Placed(Vec2),
+}
+
+pub struct Point {
+    pub start: Vec2,
+    pub state: State,
+}
+
+pub struct Line {
+    pub from: PointNo,
+    pub to: PointNo,
+}
+
+// The radius of an arc, by a point on it, or of a circle, as a value.
+pub enum Rad {
+    Point(PointNo),
+    Value(f64),
+}
+
+// Two circles touch outside, or inside with the sign of the difference of their radii.
+pub enum Contact {
+    Outside,
+    Inside(f64),
+}
+
+// The equations, with the Rust's names and fields in the Rust's order. Lengths are in units of the build's size, an axis
+// is 0 for X and 1 for Y, a side is 1.0 or -1.0.
+pub enum Equation {
+    Coincident(PointNo, PointNo),
+    Level(PointNo, PointNo, usize),
+    Parallel(LineNo, LineNo),
+    Perpendicular(LineNo, LineNo),
+    Collinear(LineNo, LineNo),
+    Equal(LineNo, LineNo),
+    Held,
+    Distance(PointNo, PointNo, f64),
+    AxisDistance(PointNo, PointNo, usize, f64, f64),
+    Length(LineNo, f64),
+    PointLine(PointNo, LineNo, f64, f64),
+    ArcEnds(PointNo, PointNo, PointNo),
+    Radius(PointNo, PointNo, f64),
+    LineCircle(LineNo, PointNo, Rad, f64),
+    CircleCircle(PointNo, Rad, PointNo, Rad, Contact),
+    LineArcAt(LineNo, PointNo, PointNo),
+    ArcArcAt(PointNo, PointNo, PointNo),
+    Midpoint(PointNo, LineNo),
+    ArcMidpoint(PointNo, PointNo, PointNo, PointNo),
+    Symmetric(PointNo, PointNo, LineNo),
+    EqualRadius(PointNo, PointNo, PointNo, PointNo),
+}
+
+// What is measured: the equation of the same name with the value 0.
+pub enum Measure {
+    Distance(PointNo, PointNo),
+    AxisDistance(PointNo, PointNo, usize, f64),
+    Length(LineNo),
+    PointLine(PointNo, LineNo, f64),
+    Radius(PointNo, PointNo),
+}
+
+// An array in a build holds structs, so an equation and a measure each stand in one of their own.
+pub struct Active {
+    pub equation: Equation,
+}
+
+pub struct Measured {
+    pub measure: Measure,
+}
+
+pub struct Build {
+    pub centre: Vec2,
+    pub size: f64,
+    pub points: [Point; 40],
+    pub point_count: usize,
+    pub lines: [Line; 40],
+    pub line_count: usize,
+    pub equations: [Active; 40],
+    pub equation_count: usize,
+    pub measures: [Measured; 20],
+    pub measure_count: usize,
+}
+
+// The endings of a job, by name; document 01's number of each is `numberOf`.
+pub enum Ending {
+    Fitted,
+    TooLong,
+    BadForm,
+    TooMany,
+    OutOfBounds,
+    NoSuchItem,
+    TooManyRows,
+    NotConverged,
+    TooShort,
+}
+
+// What the check before a fit finds.
+pub enum Checked {
+    Passes,
+    Ends(Ending),
+}
+
+// Whether a count is over its bound.
+fn counts_over(b: Build) -> bool
+    ensures { λ r. ⌜ r ≡ overOf b ⌝ }
+{
+    (b.point_count > 40) | (b.line_count > 40) | (b.equation_count > 40) | (b.measure_count > 20)
+}
