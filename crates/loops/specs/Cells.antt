@@ -18,7 +18,7 @@ module _ {A : Type 0} where
   pub cell-in : (m n r c : ℕ) (l : List A) → r < m → c < n → m * n ≤ length l → r * n + c < length l
   cell-in m n r c l h q t = cell m n r c (length l) h q t
 
-pub cell-mul : (m n r k : ℕ) → r ≤ m → m * n ≤ k → k < 2 ^ 64 → Fits w64 (r * n)
+pub cell-mul : (m n r k : ℕ) → r < m → m * n ≤ k → k < 2 ^ 64 → Fits w64 (r * n)
 cell-mul m n r k h t f = record { fits = omega (arith, mul-le-mul-right n h) }
 
 pub cell-add : (m n r c k : ℕ) → r < m → c < n → m * n ≤ k → k < 2 ^ 64 → Fits w64 (r * n + c)

@@ -23,8 +23,8 @@ pub data Try (S : Type 0) : Type 0 where
   go : S → Try S
   stop : Try S
 
--- the next turn goes on from what this one gives
-abbrev pub after : {S : Type 0} → Try S → (S → Try S) → Try S
+-- what comes next goes on from what there is
+abbrev pub after : {S T : Type 0} → Try S → (S → Try T) → Try T
 after (go s) k = k s
 after stop k = stop
 
@@ -93,6 +93,17 @@ module _ {S : Type 0} (f : ℕ → S → S) where
   pub downTo-done : (i : ℕ) (s R : S) → i ≤ 0 → downTo i f s ≡ R → s ≡ R
   unfolding downTo
   downTo-done i s R h r = let e : i ≡ 0 = omega arith in rw e at r
+
+-- two loops whose turns do the same do the same
+module _ {S : Type 0} (f g : ℕ → S → S) (lo : ℕ) (turn : (i : ℕ) (s : S) → lo ≤ i → f i s ≡ g i s) where
+  turns-same : (k i : ℕ) (s : S) → lo ≤ i → turns k i f s ≡ turns k i g s
+  unfolding turns
+  turns-same zero i s h = refl
+  turns-same (suc k) i s h = rw (turn i s h) (turns-same k (i + 1) (g i s) (omega arith))
+
+  pub upTo-same : (hi : ℕ) (s : S) → upTo hi lo f s ≡ upTo hi lo g s
+  unfolding upTo
+  upTo-same hi s = turns-same (hi - lo) lo s (omega arith)
 
 -- a loop on a part of the state, t, is the loop on the whole, φ t, if each turn is: the whole's index is the part's past j
 module _ {S T : Type 0} (φ : T → S) (j : ℕ) (f : ℕ → S → S) (g : ℕ → T → T) (turn : (i : ℕ) (t : T) → f (j + i) (φ t) ≡ φ (g i t)) where
@@ -178,13 +189,14 @@ module _ {A : Type 0} where
   every p [] = true
   every p (x ∷ l) = cond (p x) (every p l) false
 
-  pub every-next : (d : A) (p : A → Bool) (l : List A) (i : ℕ) (R : Bool) → i < length l → p (getD l i d) ≡ true → every p (drop i l) ≡ R → every p (drop (i + 1) l) ≡ R
+  -- the test is a function that answers b
+  pub every-next : (d : A) (p : A → Bool) (l : List A) (i : ℕ) (b R : Bool) → i < length l → b ≡ p (getD l i d) → b ≡ true → every p (drop i l) ≡ R → every p (drop (i + 1) l) ≡ R
   unfolding every
-  every-next d p l i R h t r = rw t at (rw (rest-next d l i h) at r)
+  every-next d p l i b R h e t r = rw (sym e ∙ t) at (rw (rest-next d l i h) at r)
 
-  pub every-stop : (d : A) (p : A → Bool) (l : List A) (i : ℕ) (R : Bool) → i < length l → p (getD l i d) ≡ false → every p (drop i l) ≡ R → false ≡ R
+  pub every-stop : (d : A) (p : A → Bool) (l : List A) (i : ℕ) (b R : Bool) → i < length l → b ≡ p (getD l i d) → b ≡ false → every p (drop i l) ≡ R → false ≡ R
   unfolding every
-  every-stop d p l i R h t r = rw t at (rw (rest-next d l i h) at r)
+  every-stop d p l i b R h e t r = rw (sym e ∙ t) at (rw (rest-next d l i h) at r)
 
   pub every-done : (p : A → Bool) (l : List A) (i : ℕ) (R : Bool) → length l ≤ i → every p (drop i l) ≡ R → true ≡ R
   unfolding every

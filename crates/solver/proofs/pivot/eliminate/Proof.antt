@@ -1,0 +1,47 @@
+use Prim.Native.Nat.{_≤_, _-_}
+use mathlib.Core.Path.{_≡_, refl}
+use lib.ListN.{length}
+use borrow.Author.Needs.{needs}
+use borrow.Author.Tests.{not-true, not-false}
+use Rattle.loops.specs.Turns.{tryTo, tryTo-next, tryTo-stop, tryTo-done}
+use Rattle.solver.specs.Steps.{sys, columnOf, eliminatedOf}
+use Rattle.solver.proofs.pivot.eliminate.Statement.{statement}
+use Rattle.solver.proofs.pivot.eliminate.Tie as tie
+
+abbrev Inv-loop : tie.InvT-loop
+Inv-loop a₀ b₀ n s col₀ a b col = (col ≤ n) × ((length a ≡ length a₀) × (length b ≡ length b₀)) × (tryTo n col (columnOf n s) (sys a b) ≡ eliminatedOf n (sys a₀ b₀))
+
+abbrev μ-loop : tie.MeasureT-loop
+μ-loop a₀ b₀ n s col₀ a b col = n - col
+
+loop-holds : tie.Need-loop-holds Inv-loop μ-loop
+unfolding eliminatedOf
+loop-holds c = (search needs, (refl, refl), rw (c .scale .ensures))
+
+returns : tie.Need-returns Inv-loop μ-loop
+returns c = search (tryTo-stop, not-true, needs)
+
+loop-again : tie.Need-loop-again Inv-loop μ-loop
+loop-again c = (search needs, (search needs, search needs), search (tryTo-next, not-false, needs))
+
+returns-2 : tie.Need-returns-2 Inv-loop μ-loop
+returns-2 c = search (tryTo-done, needs)
+
+pub eliminate-spec : {M : Type 1} → statement M
+eliminate-spec =
+    tie.close
+    (tie.spec
+    Inv-loop
+    μ-loop
+    (λ c κs. search needs)
+    loop-holds
+    (λ c κs. search needs)
+    (λ c. search needs)
+    (λ c. search needs)
+    returns
+    (λ c. search needs)
+    (λ c. search needs)
+    loop-again
+    (λ c. search needs)
+    (λ c. search needs)
+    returns-2)

@@ -1,0 +1,45 @@
+use Prim.Native.Nat.{ℕ}
+use mathlib.Core.Bool.{Bool, true, false, cond}
+use mathlib.Core.List.{List}
+use mathlib.Core.Path.{_≡_, refl, ap, _∙_}
+use lib.Ieee.{Float}
+use lib.Ieee.Scale.{finite}
+use borrow.Author.Tests.{not-true, not-false}
+use Rattle.loops.specs.Turns.{go, stop, after, tried, every}
+use Rattle.solver.specs.Steps.{sys, eliminatedOf, backOf, allFinite, solutionOf}
+use borrow.Author.Needs.{needs}
+use Rattle.solver.proofs.solve_square.Statement.{statement}
+use Rattle.solver.proofs.solve_square.Tie as tie
+
+tried-is : (t : Bool) (y : List Float) → tried t y ≡ cond t (go y) stop
+tried-is true y = refl
+tried-is false y = refl
+
+module _ (n : ℕ) (a b a₁ b₁ : List Float) (ok : Bool) (done : tried ok (sys a₁ b₁) ≡ eliminatedOf n (sys a b)) where
+  none : ok ≡ false → stop ≡ solutionOf n a b
+  unfolding solutionOf
+  none t = ap (λ s. after s (λ s. allFinite (backOf n s))) (rw t at done)
+
+  some : (y : List Float) (t : Bool) → ok ≡ true → y ≡ backOf n (sys a₁ b₁) → t ≡ every finite y → tried t y ≡ solutionOf n a b
+  unfolding solutionOf allFinite
+  some y t o e f = tried-is t y ∙ rw (f, e) (ap (λ s. after s (λ s. allFinite (backOf n s))) (rw o at done))
+
+returns : tie.Need-returns
+returns c = none _ _ _ (c .before .before .before .before .before .eliminate .last .0) (c .before .before .before .before .before .eliminate .last .1 .0) (c .before .before .before .before .before .eliminate .result) (c .before .before .before .before .before .eliminate .ensures) (not-true _ (c .if1 .taken))
+
+returns-2 : tie.Need-returns-2
+returns-2 c = some _ _ _ (c .before .before .before .before .before .before .before .before .before .before .before .before .eliminate .last .0) (c .before .before .before .before .before .before .before .before .before .before .before .before .eliminate .last .1 .0) (c .before .before .before .before .before .before .before .before .before .before .before .before .eliminate .result) (c .before .before .before .before .before .before .before .before .before .before .before .before .eliminate .ensures) _ _ (not-false _ (c .before .before .before .before .before .before .before .if1 .left)) (c .before .before .before .before .substitute .ensures) (c .all-finite .ensures)
+
+pub solve-square-spec : {M : Type 1} → statement M
+solve-square-spec =
+    tie.close
+    (tie.spec
+    (λ c κs. search needs)
+    (λ c. search needs)
+    (λ c. search needs)
+    returns
+    (λ c κs. search needs)
+    (λ c κs. search needs)
+    (λ c. search needs)
+    (λ c. search needs)
+    returns-2)

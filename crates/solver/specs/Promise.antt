@@ -1,0 +1,73 @@
+-- What a call of `solve_dense` answers and leaves in each lent place, for every input.
+use Prim.Native.Nat.{ℕ, _*_, _≤_, _<_}
+use mathlib.Core.Bool.{true, false, cond}
+use mathlib.Core.List.{List, _++_}
+use mathlib.Core.Path.{_≡_}
+use borrow.Author.Tests.{lt-ltb, le-ltb, le-leb, lt-leb}
+use lib.Dec.{ltb, leb}
+use lib.ListN.{length, take, drop, replicate}
+use lib.Ieee.{Float}
+use Rattle.floats.specs.Ops.{zero⁺}
+use Rattle.loops.specs.Turns.{Try, go, stop}
+use Rattle.loops.specs.Picks.{pick-yes, pick-no}
+use Rattle.solver.specs.declared.Elimination.{Elimination}
+use Rattle.solver.specs.declared.Elimination.the-variants.{Solved, None, TooMany, TooShort}
+use Rattle.solver.specs.Steps.{solutionOf}
+
+-- What an answer says in document 01's terms: its table's number for a refusal, no answer, or the answer's values.
+pub data Meaning : Type 0 where
+  refused : ℕ → Meaning
+  none : Meaning
+  values : List Float → Meaning
+
+-- each case of the answer, with the right side as it is afterwards
+abbrev pub meaningOf : ℕ → List Float → Elimination → Meaning
+meaningOf n b′ Solved = values (take n b′)
+meaningOf n b′ None = none
+meaningOf n b′ TooMany = refused 3
+meaningOf n b′ TooShort = refused 9
+
+-- document 01's table for a call on a bare matrix: 3, then 9, and otherwise the call is carried out
+module _ {A : Type 0} (n : ℕ) (a b : List Float) where
+  unfoldable pub checked : A → A → A → A
+  checked three nine done = cond (ltb 80 n) three (cond (leb (n * n) (length a)) (cond (leb n (length b)) done nine) nine)
+
+  module _ (v three nine done : A) where
+    pub too-many : 80 < n → v ≡ three → v ≡ checked three nine done
+    unfolding checked
+    too-many h e = pick-yes _ _ _ _ (lt-ltb 80 n h) e
+
+    pub short-matrix : n ≤ 80 → leb (n * n) (length a) ≡ false → v ≡ nine → v ≡ checked three nine done
+    unfolding checked
+    short-matrix h s e = pick-no _ _ _ _ (le-ltb 80 n h) (pick-no _ _ _ _ s e)
+
+    pub short-right : n ≤ 80 → leb (n * n) (length a) ≡ true → length b < n → v ≡ nine → v ≡ checked three nine done
+    unfolding checked
+    short-right h s t e = pick-no _ _ _ _ (le-ltb 80 n h) (pick-yes _ _ _ _ s (pick-no _ _ _ _ (lt-leb n (length b) t) e))
+
+    pub carried-out : n ≤ 80 → leb (n * n) (length a) ≡ true → n ≤ length b → v ≡ done → v ≡ checked three nine done
+    unfolding checked
+    carried-out h s t e = pick-no _ _ _ _ (le-ltb 80 n h) (pick-yes _ _ _ _ s (pick-yes _ _ _ _ (le-leb n (length b) t) e))
+
+abbrev pub found : Try (List Float) → Elimination
+found (go y) = Solved
+found stop = None
+
+abbrev pub meant : Try (List Float) → Meaning
+meant (go y) = values y
+meant stop = none
+
+-- the right side's n places afterwards: the answer, or +0.0
+abbrev pub orZeros : ℕ → Try (List Float) → List Float
+orZeros n (go y) = y
+orZeros n stop = replicate n zero⁺
+
+-- the system that the call is about: the n² places at the head of a, and the n at the head of b
+abbrev pub solved : ℕ → List Float → List Float → Try (List Float)
+solved n a b = solutionOf n (take (n * n) a) (take n b)
+
+pub record Solves (n : ℕ) (a b a′ b′ : List Float) (r : Elimination) : Type 0 where
+  pub answer : r ≡ checked n a b TooMany TooShort (found (solved n a b))
+  pub meaning : meaningOf n b′ r ≡ checked n a b (refused 3) (refused 9) (meant (solved n a b))
+  pub matrix : a′ ≡ checked n a b a a (replicate (n * n) zero⁺ ++ drop (n * n) a)
+  pub right : b′ ≡ checked n a b b b (orZeros n (solved n a b) ++ drop n b)

@@ -1,0 +1,22 @@
+-- The two figures of a list of numbers.
+use mathlib.Core.Bool.{false, cond}
+use mathlib.Core.List.{List}
+use lib.Ieee.{Float, inf}
+use lib.Ieee.Scale.{finite}
+use Rattle.floats.specs.Ops.{_⊕_, _⊗_, zero⁺, zero⁻}
+use Rattle.floats.specs.Magnitude.{absOf, maxOf}
+use Rattle.loops.specs.Turns.{fold}
+
+-- solver.rs, `max_abs`: what is not finite counts as infinite, until something finite follows
+unfoldable pub largerAbs : Float → Float → Float
+largerAbs m a = cond (finite a) (maxOf m (absOf a)) (inf false)
+
+unfoldable pub maxAbsOf : List Float → Float
+maxAbsOf v = fold largerAbs zero⁺ v
+
+-- solver.rs, `norm2`: a `sum()`, so it starts from −0.0
+unfoldable pub addSquare : Float → Float → Float
+addSquare s a = s ⊕ a ⊗ a
+
+unfoldable pub norm2Of : List Float → Float
+norm2Of v = fold addSquare zero⁻ v

@@ -1,0 +1,105 @@
+// The loop over the columns: the pivot, the exchange of two rows, and the rows below it.
+ghost use mathlib.Core.Path.{_≡_};
+ghost use Prim.Native.Nat.{_+_, _*_, _≤_, _<_};
+ghost use lib.ListN.{length};
+ghost use Rattle.loops.specs.Turns.{tried, upTo};
+ghost use Rattle.solver.specs.Steps.{sys, largerOf, scaleOf, largerRow, pivotOf, swapAt, swapColumn, swapped, columnOf, eliminatedOf};
+use crate::below;
+
+// The largest magnitude, NaN skipped, at least 1e-300.
+fn scale(a: &[f64]) -> f64
+    ensures { λ r. ⌜ r ≡ scaleOf (now (a .entry)) ⌝ }
+{
+    let mut m = 0.0;
+    for i in 0..a.len() {
+        m = larger(m, a[i]);
+    }
+    floats::max(m, 1e-300)
+}
+
+fn larger(m: f64, v: f64) -> f64
+    ensures { λ r. ⌜ r ≡ largerOf m v ⌝ }
+{
+    floats::max(m, floats::abs(v))
+}
+
+// The row from `col` on with the largest magnitude in column `col`, the lowest one on ties.
+fn pivot_row(a: &[f64], n: usize, col: usize) -> usize
+    requires { ⌜ (col < n) × (n * n ≤ length (now a)) ⌝ }
+    ensures { λ r. ⌜ (r ≡ pivotOf n col (now (a .entry))) × (r < n) ⌝ }
+{
+    let mut best = col;
+    for row in col + 1..n {
+        best = larger_row(a, n, col, row, best);
+    }
+    best
+}
+
+fn larger_row(a: &[f64], n: usize, col: usize, q: usize, p: usize) -> usize
+    requires { ⌜ (p < n) × ((q < n) × ((col < n) × (n * n ≤ length (now a)))) ⌝ }
+    ensures { λ r. ⌜ (r ≡ largerRow n col (now (a .entry)) q p) × (r < n) ⌝ }
+{
+    if floats::magnitude(a[p * n + col]) < floats::magnitude(a[q * n + col]) {
+        q
+    } else {
+        p
+    }
+}
+
+fn swap(s: &mut [f64], i: usize, j: usize)
+    requires { ⌜ (i < length (now s)) × (j < length (now s)) ⌝ }
+    ensures { λ _. ⌜ now (s .exit) ≡ swapAt i j (now (s .entry)) ⌝ }
+{
+    let x = s[i];
+    s[i] = s[j];
+    s[j] = x;
+}
+
+fn swap_rows(a: &mut [f64], n: usize, p: usize, q: usize)
+    requires { ⌜ ((p < n) × (q < n)) × (n * n ≤ length (now a)) ⌝ }
+    ensures { λ _. ⌜ now (a .exit) ≡ upTo n 0 (swapColumn n p q) (now (a .entry)) ⌝ }
+{
+    for c in 0..n {
+        swap(a, p * n + c, q * n + c);
+    }
+}
+
+// Brings the pivot's row to `col`, in the matrix and in the right side.
+fn swap_in(a: &mut [f64], b: &mut [f64], n: usize, col: usize, piv: usize)
+    requires { ⌜ ((piv < n) × (col < n)) × ((n * n ≤ length (now a)) × (n ≤ length (now b))) ⌝ }
+    ensures { λ _. ⌜ sys (now (a .exit)) (now (b .exit)) ≡ swapped n col piv (sys (now (a .entry)) (now (b .entry))) ⌝ }
+{
+    if piv == col {
+        return;
+    }
+    swap_rows(a, n, piv, col);
+    swap(b, piv, col);
+}
+
+// Clears column `col` below its pivot; false where there is no pivot, and then nothing is said of what is left.
+fn column(a: &mut [f64], b: &mut [f64], n: usize, scale: f64, col: usize) -> bool
+    requires { ⌜ (col < n) × ((n * n ≤ length (now a)) × (n ≤ length (now b))) ⌝ }
+    ensures { λ r. ⌜ tried r (sys (now (a .exit)) (now (b .exit))) ≡ columnOf n scale col (sys (now (a .entry)) (now (b .entry))) ⌝ }
+{
+    let piv = pivot_row(a, n, col);
+    if floats::abs(a[piv * n + col]) <= scale * 1e-15 {
+        return false;
+    }
+    swap_in(a, b, n, col, piv);
+    below::clear_below(a, b, n, col);
+    true
+}
+
+// Brings the matrix to upper triangular form; false where it is singular.
+pub fn eliminate(a: &mut [f64], b: &mut [f64], n: usize) -> bool
+    requires { ⌜ (n * n ≤ length (now a)) × (n ≤ length (now b)) ⌝ }
+    ensures { λ r. ⌜ tried r (sys (now (a .exit)) (now (b .exit))) ≡ eliminatedOf n (sys (now (a .entry)) (now (b .entry))) ⌝ }
+{
+    let s = scale(a);
+    for col in 0..n {
+        if !column(a, b, n, s, col) {
+            return false;
+        }
+    }
+    true
+}
