@@ -57,13 +57,13 @@ fn settle(t: u64, r: u64) -> u64
     let f = square(2 * r + 1);
     let d = r / 0x800_0000_0000;
     let a = r + (f < t) as u64;
-    if f + d < t {
-        return climb(t, a);
-    }
-    if t + d <= f {
+    if t <= f + d {
+        if f < t + d {
+            return a;
+        }
         return fall(t, a);
     }
-    a
+    climb(t, a)
 }
 
 // Nearly the root of the number v with these bits, from 1/4 to 1, and twice as large. y is some 0.9 / √v by its bits alone, so the

@@ -51,13 +51,18 @@ add-a c = omega (arith, one-at-most (ltb (c .square .result) (c .before .args .t
 add-if1 : tie.Need-add-if1
 add-if1 c = omega (arith, square-small (2 * (c .before .args .r) + 1) (c .square .result) (c .square .ensures) (search needs))
 
-climb-requires : tie.Need-climb-requires
-climb-requires c κs =
-    let t = c .before .before .args .t in
-    let r = c .before .before .args .r in
-    let f = c .before .square .result in
-    let h : f < t = omega arith in
-    (search needs, subst⁻¹ (Over t) (more t r f h) (above t r f (c .before .square .ensures) h))
+returns : tie.Need-returns
+returns c =
+    let t = c .before .before .before .args .t in
+    let r = c .before .before .before .args .r in
+    let f = c .before .before .square .result in
+    let e = c .before .before .square .ensures in
+    elim (decLt f t) [
+      | yes h ↦ subst⁻¹ (Root t) (more t r f h) (next t r f e h (c .before .if1 .taken))
+      | no h ↦
+          let g : t ≤ f = omega arith in
+          subst⁻¹ (Root t) (same t r f g) (here t r f e g (c .if2 .taken))
+    ]
 
 fall-requires : tie.Need-fall-requires
 fall-requires c κs =
@@ -67,18 +72,13 @@ fall-requires c κs =
     let h : t ≤ f = omega arith in
     (search needs, subst⁻¹ (λ (a : ℕ). a ≤ 2 ^ 53) (same t r f h) (omega arith), subst⁻¹ (Under t) (same t r f h) (under t r f (c .before .before .square .ensures) h))
 
-returns-3 : tie.Need-returns-3
-returns-3 c =
-    let t = c .before .before .before .args .t in
-    let r = c .before .before .before .args .r in
-    let f = c .before .before .square .result in
-    let e = c .before .before .square .ensures in
-    elim (decLt f t) [
-      | yes h ↦ subst⁻¹ (Root t) (more t r f h) (next t r f e h (c .before .if1 .left))
-      | no h ↦
-          let g : t ≤ f = omega arith in
-          subst⁻¹ (Root t) (same t r f g) (here t r f e g (c .if2 .left))
-    ]
+climb-requires : tie.Need-climb-requires
+climb-requires c κs =
+    let t = c .before .before .args .t in
+    let r = c .before .before .args .r in
+    let f = c .before .square .result in
+    let h : f < t = omega arith in
+    (search needs, subst⁻¹ (Over t) (more t r f h) (above t r f (c .before .square .ensures) h))
 
 pub settle-spec : {M : Type 1} → statement M
 settle-spec =
@@ -90,9 +90,9 @@ settle-spec =
     (λ c. search needs)
     add-a
     add-if1
-    climb-requires
     (λ c. search needs)
-    (λ c. search needs)
+    returns
     fall-requires
     (λ c. search needs)
-    returns-3)
+    climb-requires
+    (λ c. search needs))
