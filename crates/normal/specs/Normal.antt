@@ -35,8 +35,11 @@ productOf rows nf j = upTo rows 0 (pairsOf rows nf j) (replicate (rows * rows) z
 unfoldable pub maxOnDiagonal : ℕ → List Float → ℕ → Float → Float
 maxOnDiagonal rows a i m = maxOf m (getD a (i * rows + i) nan)
 
+unfoldable pub largestOf : ℕ → List Float → Float
+largestOf rows a = upTo rows 0 (maxOnDiagonal rows a) zero⁺
+
 unfoldable pub diagMaxOf : ℕ → List Float → Float
-diagMaxOf rows a = maxOf (upTo rows 0 (maxOnDiagonal rows a) zero⁺) 1e-300
+diagMaxOf rows a = maxOf (largestOf rows a) 1e-300
 
 -- for i in 0..rows { ad[i * rows + i] += mu * diag_max; }
 unfoldable pub addOnDiagonal : ℕ → Float → Float → ℕ → List Float → List Float

@@ -1,19 +1,18 @@
 // The diagonal of the product, and its damping.
 ghost use mathlib.Core.Path.{_≡_};
-ghost use mathlib.Core.List.{_++_};
 ghost use Prim.Native.Nat.{_*_, _≤_};
-ghost use lib.ListN.{length, take, drop};
-ghost use Rattle.normal.specs.Normal.{diagMaxOf, diagMaxIn, dampedOf, dampedIn};
+ghost use lib.ListN.{length, take};
+ghost use Rattle.normal.specs.Normal.{largestOf, diagMaxIn, dampedOf, dampedIn};
 
 fn largest(a: &[f64], rows: usize) -> f64
     requires { ⌜ rows * rows ≤ length (now a) ⌝ }
-    ensures { λ r. ⌜ r ≡ diagMaxOf rows (now (a .entry)) ⌝ }
+    ensures { λ r. ⌜ r ≡ largestOf rows (now (a .entry)) ⌝ }
 {
     let mut m = 0.0;
     for i in 0..rows {
         m = floats::max(m, a[i * rows + i]);
     }
-    floats::max(m, 1e-300)
+    m
 }
 
 // The largest number on the diagonal, at least 1e-300.
@@ -21,18 +20,9 @@ pub fn diag_max(a: &[f64], rows: usize) -> f64
     ensures { λ r. ⌜ r ≡ diagMaxIn rows (now (a .entry)) ⌝ }
 {
     if loops::holds(a.len(), rows, rows) {
-        largest(a, rows)
+        floats::max(largest(a, rows), 1e-300)
     } else {
         0.0 / 0.0
-    }
-}
-
-fn copy(a: &[f64], w: &mut [f64])
-    requires { ⌜ length (now w) ≤ length (now a) ⌝ }
-    ensures { λ _. ⌜ now (w .exit) ≡ take (length (now (w .entry))) (now (a .entry)) ⌝ }
-{
-    for i in 0..w.len() {
-        w[i] = a[i];
     }
 }
 
@@ -45,15 +35,21 @@ fn add_on_diagonal(w: &mut [f64], rows: usize, mu: f64, m: f64)
     }
 }
 
-// A copy of the product with mu * m added on its diagonal.
+// A copy of the head of a with mu * m added on its diagonal, over the whole of w.
+fn whole_damped(a: &[f64], w: &mut [f64], rows: usize, mu: f64, m: f64)
+    requires { ⌜ (rows * rows ≤ length (now a)) × (length (now w) ≡ rows * rows) ⌝ }
+    ensures { λ _. ⌜ now (w .exit) ≡ dampedOf rows mu m (take (rows * rows) (now (a .entry))) ⌝ }
+{
+    floats::copy(a, w);
+    add_on_diagonal(w, rows, mu, m);
+}
+
+// A copy of the product with mu * m added on its diagonal, at the head of w.
 pub fn damped(a: &[f64], w: &mut [f64], rows: usize, mu: f64, m: f64)
     ensures { λ _. ⌜ now (w .exit) ≡ dampedIn rows mu m (now (a .entry)) (now (w .entry)) ⌝ }
 {
-    if loops::holds(a.len(), rows, rows) {
-        if loops::holds(w.len(), rows, rows) {
-            let nn = rows * rows;
-            copy(a, &mut w[..nn]);
-            add_on_diagonal(&mut w[..nn], rows, mu, m);
-        }
+    if loops::holds(a.len(), rows, rows) & loops::holds(w.len(), rows, rows) {
+        let nn = rows * rows;
+        whole_damped(a, &mut w[..nn], rows, mu, m);
     }
 }

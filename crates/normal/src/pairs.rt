@@ -1,10 +1,9 @@
 // The product of the Jacobian with its transpose.
 ghost use mathlib.Core.Path.{_≡_};
 ghost use Prim.Native.Nat.{_*_, _≤_, _<_};
-ghost use lib.ListN.{length, replicate};
-ghost use Rattle.floats.specs.Ops.{zero⁺};
+ghost use lib.ListN.{length};
 ghost use Rattle.loops.specs.Turns.{upTo};
-ghost use Rattle.normal.specs.Normal.{rowsProduct, pairOf, pairsOf, productIn};
+ghost use Rattle.normal.specs.Normal.{rowsProduct, pairOf, pairsOf, productOf, productIn};
 
 // The product of rows i and k of the Jacobian.
 fn rows_product(j: &[f64], rows: usize, nf: usize, i: usize, k: usize) -> f64
@@ -48,22 +47,21 @@ fn all_pairs(j: &[f64], a: &mut [f64], rows: usize, nf: usize)
     }
 }
 
-fn clear(a: &mut [f64])
-    ensures { λ _. ⌜ now (a .exit) ≡ replicate (length (now (a .entry))) zero⁺ ⌝ }
+// A = J Jᵀ, over the whole of a.
+fn whole_product(j: &[f64], a: &mut [f64], rows: usize, nf: usize)
+    requires { ⌜ (rows * nf ≤ length (now j)) × (length (now a) ≡ rows * rows) ⌝ }
+    ensures { λ _. ⌜ now (a .exit) ≡ productOf rows nf (now (j .entry)) ⌝ }
 {
-    for i in 0..a.len() {
-        a[i] = 0.0;
-    }
+    floats::clear(a);
+    all_pairs(j, a, rows, nf);
 }
 
+// A = J Jᵀ, at the head of a.
 pub fn product(j: &[f64], a: &mut [f64], rows: usize, nf: usize)
     ensures { λ _. ⌜ now (a .exit) ≡ productIn rows nf (now (j .entry)) (now (a .entry)) ⌝ }
 {
-    if loops::holds(j.len(), rows, nf) {
-        if loops::holds(a.len(), rows, rows) {
-            let nn = rows * rows;
-            clear(&mut a[..nn]);
-            all_pairs(j, &mut a[..nn], rows, nf);
-        }
+    if loops::holds(j.len(), rows, nf) & loops::holds(a.len(), rows, rows) {
+        let nn = rows * rows;
+        whole_product(j, &mut a[..nn], rows, nf);
     }
 }

@@ -40,11 +40,7 @@ fn move_all(j: &[f64], y: &[f64], free: &[usize], x: &mut [f64], rows: usize, nf
 pub fn moved(j: &[f64], y: &[f64], free: &[usize], x: &mut [f64], rows: usize, nf: usize)
     ensures { λ _. ⌜ now (x .exit) ≡ movedIn rows nf (now (j .entry)) (now (y .entry)) (now (free .entry)) (now (x .entry)) ⌝ }
 {
-    if loops::holds(j.len(), rows, nf) {
-        if rows <= y.len() {
-            if nf <= free.len() {
-                move_all(j, y, free, x, rows, nf);
-            }
-        }
+    if loops::holds(j.len(), rows, nf) & (rows <= y.len()) & (nf <= free.len()) {
+        move_all(j, y, free, x, rows, nf);
     }
 }

@@ -1,42 +1,30 @@
+-- Assumes nothing.
+use Prim.Native.Nat.{_-_, _≤_}
+use mathlib.Core.Path.{_≡_, refl}
+use borrow.Author.Needs.{needs}
+use lib.ListN.{length}
+use Rattle.loops.specs.Cells.{cells}
+use Rattle.loops.specs.Turns.{upTo, upTo-next, upTo-done}
+use Rattle.normal.specs.Normal.{pairOf, pairsOf}
 use Rattle.normal.proofs.pairs.pairs_of.Statement.{statement}
 use Rattle.normal.proofs.pairs.pairs_of.Tie as tie
-use Rattle.normal.proofs.pairs.pairs_of.Reads as reads
-use Rattle.normal.proofs.pairs.pairs_of.Lts as lts
-use Rattle.normal.proofs.pairs.pair.Reads as pair-reads
 
 abbrev Inv-loop : tie.InvT-loop
-Inv-loop j a₀ rows nf i k₀ a k = ?
+Inv-loop j a₀ rows nf i k₀ a k =
+    (i ≤ k) × (k ≤ rows) × (length a ≡ length a₀) × (upTo rows k (pairOf rows nf j i) a ≡ pairsOf rows nf j i a₀)
 
 abbrev μ-loop : tie.MeasureT-loop
-μ-loop j a₀ rows nf i k₀ a k = ?
+μ-loop j a₀ rows nf i k₀ a k = rows - k
 
--- src/pairs.rt:37:5
 loop-holds : tie.Need-loop-holds Inv-loop μ-loop
-loop-holds c = ?
+unfolding pairsOf
+loop-holds c = (search needs, search needs, refl, refl)
 
--- src/pairs.rt:38:9
-pair-requires : tie.Need-pair-requires Inv-loop μ-loop
-pair-requires c κs = ?
-
--- src/pairs.rt:37:9
-add-k : tie.Need-add-k Inv-loop μ-loop
-add-k c = ?
-
--- src/pairs.rt:37:5
-loop-less : tie.Need-loop-less Inv-loop μ-loop
-loop-less c = ?
-
--- src/pairs.rt:37:5
 loop-again : tie.Need-loop-again Inv-loop μ-loop
-loop-again c = ?
+loop-again c = (search needs, search needs, search needs, search (upTo-next, needs))
 
--- src/pairs.rt:33:1
-same-length : tie.Need-same-length Inv-loop μ-loop
-same-length c = ?
-
--- src/pairs.rt:33:1
 returns : tie.Need-returns Inv-loop μ-loop
-returns c = ?
+returns c = search (upTo-done, needs)
 
 pub pairs-of-spec : {M : Type 1} → statement M
 pairs-of-spec =
@@ -45,9 +33,9 @@ pairs-of-spec =
     Inv-loop
     μ-loop
     loop-holds
-    pair-requires
-    add-k
-    loop-less
+    (λ c κs. search needs)
+    (λ c. search (cells, needs))
+    (λ c. search needs)
     loop-again
-    same-length
+    (λ c. search needs)
     returns)

@@ -3,7 +3,6 @@ use Prim.Native.Nat.{_*_, _-_, _≤_}
 use mathlib.Core.Path.{_≡_, refl}
 use borrow.Author.Needs.{needs}
 use lib.Ieee.{neg, ofBits}
-use Rattle.floats.specs.Ops.{zero⁻}
 use Rattle.loops.specs.Cells.{cells}
 use Rattle.loops.specs.Turns.{upTo, upTo-next, upTo-done}
 use Rattle.normal.specs.Normal.{addProduct, rowsProduct}
