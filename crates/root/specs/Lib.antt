@@ -4,3 +4,4 @@ pub mod Order
 pub mod Place
 pub mod Normal
 pub mod Value
+pub mod Rounded

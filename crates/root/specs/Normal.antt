@@ -2,6 +2,7 @@
 use mathlib.Core.Path.{_≡_, refl, sym, ap, ap₂, _∙_, subst, subst⁻¹}
 use Prim.Native.Nat.{ℕ, zero, suc, _+_, _-_, _*_, _/_, _%_, _^_, _≤_, _<_}
 use native.Mathlib.Nat.{le-trans, lt-of-not-le, lt-irrefl, lt-of-lt-of-le, add-comm, mul-assoc, mul-le-mul-right, mul-lt-mul-of-pos-right}
+use native.Mathlib.Decide.{decLt}
 use native.Mathlib.Omega.{arith}
 use lib.Count.{leadingZeros, leading-top}
 use lib.Pow.{pow-pos, pow-add, pow-mono}
@@ -61,3 +62,14 @@ scaled-is (suc e) t h =
 pub normal-is : (b : ℕ) → 2 ^ 52 ≤ b → (b % 2 ^ 52 + 2 ^ 52) * 2 ^ (b / 2 ^ 52 + 1021 + 54) ≡ count b * 2 ^ 1076
 unfolding count
 normal-is b h = scaled-is (b / 2 ^ 52) (b % 2 ^ 52) (omega arith)
+
+-- ---- both
+
+pub normal : (b : ℕ) → 0 < b → b < 2047 * 2 ^ 52 → (m : ℕ) × (k : ℕ) × (2 ^ 52 ≤ m) × (m < 2 ^ 53) × (k < 3068) × (m * 2 ^ (k + 54) ≡ count b * 2 ^ 1076)
+normal b p h = elim (decLt b (2 ^ 52)) [
+  | yes l ↦
+      let z = leadingZeros 64 b in
+      let g = raised-bounds b p l in
+      (raised b z, 1033 - z, g .0, g .1, omega (arith, zeros-bounds b p l), raised-is b p l ∙ ap (λ (n : ℕ). n * 2 ^ 1076) (sym (count-low b l)))
+  | no l ↦ (b % 2 ^ 52 + 2 ^ 52, b / 2 ^ 52 + 1021, omega arith, omega arith, omega arith, normal-is b (omega arith))
+]

@@ -2,7 +2,7 @@
 use mathlib.Core.Path.{_≡_, refl, sym, ap, ap₂, _∙_, subst, subst⁻¹}
 use mathlib.Core.Bool.{Bool, true, false, cond, true≢false}
 use Prim.Native.Nat.{ℕ, zero, suc, _+_, _*_, _/_, _%_, _^_, _≤_, _<_}
-use native.Mathlib.Nat.{lt-irrefl, mul-one, zero-mul, mul-pos, eq-or-lt-of-le, mod-eq-of-lt}
+use native.Mathlib.Nat.{lt-irrefl, mul-one, zero-mul, mul-pos, eq-zero-or-pos, mod-eq-of-lt}
 use native.Mathlib.Decide.{decLt}
 use native.Mathlib.Omega.{arith}
 use mathlib.Core.Logic.{_⊎_, inl, inr}
@@ -107,6 +107,48 @@ root-other b h z w = elim (decLt b (2 ^ 63)) [
           ap (λ (e : ℕ). sqrtOf (ofFields binary64 true e t)) d ∙ last-signed t
     ]
 
+-- ---- the patterns of the positive values
+
+positive-sign : (x : Float) (s : Bool) (a c : ℕ) → HasValue x s a c → T (positive x) → s ≡ false
+positive-sign nan s a c h p = absurd p
+positive-sign (inf t) s a c h p = absurd p
+positive-sign (fin true m e) s a c h p = absurd p
+positive-sign (fin false m e) s a c h p = sym (h .0)
+
+last-not-positive : (s : Bool) (t : ℕ) → T (positive (ofFields binary64 s 2047 t)) → ⊥
+unfolding ofFields
+last-not-positive s t p = go (eqb t 0) p
+  where
+    go : (v : Bool) → T (positive (cond v (inf s) nan)) → ⊥
+    go true p = p
+    go false p = p
+
+zero-not-positive : T (positive (ofBits binary64 0)) → ⊥
+unfolding ofBits
+zero-not-positive p = p
+
+fields-finite : (s : Bool) (e t : ℕ) → e ≤ 2047 → T (positive (ofFields binary64 s e t)) → (e < 2047) × (s ≡ false)
+fields-finite s e t f p = elim (decLt e 2047) [
+  | yes l ↦ (l, positive-sign (ofFields binary64 s e t) s (scaled e t) (2 ^ 1074) (value-at s e t l) p)
+  | no l ↦
+      let d : e ≡ 2047 = omega arith in
+      absurd (last-not-positive s t (subst (λ (e : ℕ). T (positive (ofFields binary64 s e t))) d p))
+]
+
+bits-finite : (b : ℕ) → b < 2 ^ 64 → T (positive (ofBits binary64 b)) → (0 < b) × (b < 2047 * 2 ^ 52)
+bits-finite b w p = elim (decLt b (2 ^ 63)) [
+  | yes l ↦
+      let f = fields-finite false (b / 2 ^ 52) (b % 2 ^ 52) (omega arith) (subst (λ (v : Float). T (positive v)) (plain b l) p) in
+      (above (eq-zero-or-pos b), omega (arith, f .0))
+  | no l ↦
+      let g : 2 ^ 63 ≤ b = omega arith in
+      absurd (true≢false (fields-finite true (b % 2 ^ 63 / 2 ^ 52) (b % 2 ^ 52) (omega arith) (subst (λ (v : Float). T (positive v)) (signed b g) p) .1))
+]
+  where
+    above : (b ≡ 0) ⊎ (0 < b) → 0 < b
+    above (inl z) = absurd (zero-not-positive (subst (λ (n : ℕ). T (positive (ofBits binary64 n))) z p))
+    above (inr h) = h
+
 -- ---- of a float that the format holds, by its own pattern
 
 module _ (x : Float) (held : T (fits binary64 x)) where
@@ -119,3 +161,10 @@ module _ (x : Float) (held : T (fits binary64 x)) where
   -- a pattern that is its own root
   pub own-kept : (b : ℕ) → toBits binary64 x ≡ b → sqrtOf (ofBits binary64 b) ≡ ofBits binary64 b → sqrtOf x ≡ x
   own-kept b e h = subst (λ (v : Float). sqrtOf v ≡ v) (ap (ofBits binary64) (sym e) ∙ ofBits-toBits binary64 x held) h
+
+  pub positive-bits : T (positive x) → (0 < toBits binary64 x) × (toBits binary64 x < 2047 * 2 ^ 52)
+  positive-bits p = bits-finite (toBits binary64 x) (toBits-lt binary64 x held) (subst⁻¹ (λ (v : Float). T (positive v)) (ofBits-toBits binary64 x held) p)
+
+  -- the value of a positive x is `count` of its pattern
+  pub own-value : T (positive x) → HasValue x false (count (toBits binary64 x)) (2 ^ 1074)
+  own-value p = subst (λ (v : Float). HasValue v false (count (toBits binary64 x)) (2 ^ 1074)) (ofBits-toBits binary64 x held) (bits-value (toBits binary64 x) (positive-bits p .1))

@@ -1,9 +1,10 @@
 -- The root over whole numbers, in which the code works, with the bounds that it keeps. Assumes nothing.
 use mathlib.Core.Path.{_≡_, subst}
-use mathlib.Core.Logic.{_⊎_, inl, inr}
 use Prim.Native.Nat.{ℕ, zero, suc, _+_, _-_, _*_, _^_, _≤_, _<_}
 use native.Mathlib.Nat.{lt-of-not-le, mul-le-mul}
+use native.Mathlib.Decide.{decLt}
 use native.Mathlib.Omega.{arith}
+use lib.Dec.{lit<}
 
 -- the point halfway below r, doubled and squared, is below t * 2 ^ 46
 abbrev pub Over : ℕ → ℕ → Type 0
@@ -44,12 +45,31 @@ under-large t r h u =
     omega arith
 
 -- a halfway point stands above one number and below the next
-pub up : (t r : ℕ) → (2 * r + 1) * (2 * r + 1) < t * 2 ^ 46 → Over t (r + 1)
-up t r h =
+pub up : (n r : ℕ) → (2 * r + 1) * (2 * r + 1) < n → (2 * (r + 1) - 1) * (2 * (r + 1) - 1) < n
+up n r h =
     let e : 2 * r + 1 ≡ 2 * (r + 1) - 1 = omega arith in
-    subst (λ (z : ℕ). z * z < t * 2 ^ 46) e h
+    subst (λ (z : ℕ). z * z < n) e h
 
 pub down : (t r : ℕ) → 1 ≤ r → t * 2 ^ 46 ≤ (2 * r - 1) * (2 * r - 1) → Under t (r - 1)
 down t r p h =
     let e : 2 * r - 1 ≡ 2 * (r - 1) + 1 = omega arith in
     no-tie t (r - 1) (subst (λ (z : ℕ). t * 2 ^ 46 ≤ z * z) e h)
+
+-- every n above 0 stands between the squares of two halfway points
+between : (n : ℕ) → (r : ℕ) × ((2 * r - 1) * (2 * r - 1) < suc n) × (suc n ≤ (2 * r + 1) * (2 * r + 1))
+between zero = (0, lit< tt, omega arith)
+between (suc n) =
+    let p = between n in
+    let r = p .0 in
+    elim (decLt (suc n) ((2 * r + 1) * (2 * r + 1))) [
+      | yes l ↦ (r, omega (arith, p .1), l)
+      | no l ↦ (r + 1, up (suc (suc n)) r (omega arith), omega (arith, p .2))
+    ]
+
+pub root-exists : (t : ℕ) → 0 < t → (r : ℕ) × Root t r
+root-exists t h =
+    let n = t * 2 ^ 46 - 1 in
+    let e : suc n ≡ t * 2 ^ 46 = omega arith in
+    let p = between n in
+    let r = p .0 in
+    (r, (subst (λ (y : ℕ). (2 * r - 1) * (2 * r - 1) < y) e (p .1), no-tie t r (subst (λ (y : ℕ). y ≤ (2 * r + 1) * (2 * r + 1)) e (p .2))))

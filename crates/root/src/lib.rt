@@ -135,10 +135,7 @@ pub fn sqrt(x: f64) -> f64
     if b == INFINITE {
         return x;
     }
-    if b == MINUS_ZERO {
-        return x;
-    }
-    0.0 / 0.0
+    if b == MINUS_ZERO { x } else { 0.0 / 0.0 }
 }
 
 // The same, for programs in other languages.

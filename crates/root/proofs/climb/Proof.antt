@@ -40,7 +40,7 @@ loop-again : tie.Need-loop-again Inv-loop μ-loop
 loop-again c =
     let a = c .before .before .loop .a in
     let t = c .before .before .before .args .t in
-    up t a (square-over (2 * a + 1) t (c .before .square .result) (c .before .square .ensures) (c .if1 .taken))
+    up (t * 2 ^ 46) a (square-over (2 * a + 1) t (c .before .square .result) (c .before .square .ensures) (c .if1 .taken))
 
 returns : tie.Need-returns Inv-loop μ-loop
 returns c =

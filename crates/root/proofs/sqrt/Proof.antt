@@ -8,6 +8,7 @@ use lib.Ieee.Compare.{differs-from-itself}
 use borrow.Author.Needs.{needs}
 use Rattle.root.specs.Root.{count, rootBits, sqrtOf}
 use Rattle.root.specs.Normal.{count-low, normal-is}
+use Rattle.root.specs.Rounded.{root-minus-zero}
 use Rattle.root.specs.Value.{own-positive, own-other, own-kept}
 use Rattle.root.proofs.Patterns.{equals-itself}
 use Rattle.root.proofs.sqrt.Statement.{statement}
@@ -25,10 +26,6 @@ root-nan = refl
 root-zero : sqrtOf (ofBits binary64 0) ≡ ofBits binary64 0
 unfolding sqrtOf ofBits
 root-zero = refl
-
-root-minus-zero : sqrtOf (ofBits binary64 0x8000_0000_0000_0000) ≡ ofBits binary64 0x8000_0000_0000_0000
-unfolding sqrtOf ofBits
-root-minus-zero = refl
 
 root-infinite : sqrtOf (ofBits binary64 0x7ff0_0000_0000_0000) ≡ ofBits binary64 0x7ff0_0000_0000_0000
 unfolding sqrtOf ofBits
