@@ -1,12 +1,11 @@
 -- The patterns stand in the order of their values, so `rootBits` finds the one pattern that has y between the squares of its halfway points. Assumes nothing.
-use mathlib.Core.Path.{_≡_, refl, sym, ap, ap₂, _∙_, subst, subst₂}
+use mathlib.Core.Path.{_≡_, sym, ap, ap₂, _∙_, subst, subst₂}
 use mathlib.Core.Bool.{Bool, true, false, cond}
 use Prim.Native.Nat.{ℕ, zero, suc, _+_, _-_, _*_, _/_, _%_, _^_, _≤_, _<_}
 use native.Mathlib.Nat.{le-refl, le-trans, le-of-lt, lt-of-le-of-lt, lt-of-not-le, add-le-add, mul-le-mul, mul-lt-mul-of-pos-right, pow-succ'}
 use native.Mathlib.Numerals.{add-one}
 use native.Mathlib.Decide.{decLt, le-ind}
 use native.Mathlib.Omega.{arith}
-use lib.Dec.{ltb}
 use lib.Arith.{digits-div, digits-mod}
 use lib.Pow.{pow-pos}
 use borrow.Author.Tests.{lt-ltb, le-ltb}

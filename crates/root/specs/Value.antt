@@ -6,9 +6,9 @@ use native.Mathlib.Nat.{lt-irrefl, mul-one, zero-mul, mul-pos, eq-zero-or-pos, m
 use native.Mathlib.Decide.{decLt}
 use native.Mathlib.Omega.{arith}
 use mathlib.Core.Logic.{_⊎_, inl, inr}
-use lib.Dec.{T, leb, eqb}
+use lib.Dec.{T, eqb}
 use lib.Pow.{pow-pos}
-use lib.Ieee.{Float, nan, inf, fin, binary64, odd, ofFields, ofBits, toBits, fits, up, down}
+use lib.Ieee.{Float, nan, inf, fin, binary64, odd, ofFields, ofBits, toBits, fits, up}
 use lib.Ieee.Bits.{ofBits-toBits, toBits-lt}
 use lib.Ieee.Exact.{HasValue, odd-sign}
 use lib.Ieee.Fits.{down-pos}

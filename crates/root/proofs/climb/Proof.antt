@@ -1,6 +1,5 @@
 -- `root::climb` meets its contract: the lower halfway point stays below, and a turn's test shows it of the next number. Assumes nothing.
-use mathlib.Core.Path.{_≡_, subst}
-use Prim.Native.Nat.{ℕ, _+_, _-_, _*_, _^_, _≤_, _<_}
+use Prim.Native.Nat.{_+_, _-_, _*_, _^_, _≤_}
 use native.Mathlib.Omega.{arith}
 use borrow.Author.Needs.{needs}
 use Rattle.root.specs.Whole.{Over, no-tie, over-small, up}
@@ -17,9 +16,6 @@ abbrev μ-loop : tie.MeasureT-loop
 -- so a is never large
 small : (c : tie.At-loop Inv-loop μ-loop) → c .loop .a ≤ 2 ^ 53
 small c = over-small (c .before .args .t) (c .loop .a) (search needs) (c .loop .inv)
-
-loop-holds : tie.Need-loop-holds Inv-loop μ-loop
-loop-holds c = search needs
 
 mul-square : tie.Need-mul-square Inv-loop μ-loop
 mul-square c = omega (arith, small c)
@@ -54,7 +50,7 @@ climb-spec =
     (tie.spec
     Inv-loop
     μ-loop
-    loop-holds
+    (λ c. search needs)
     mul-square
     add-square
     square-requires

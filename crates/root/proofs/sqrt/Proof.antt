@@ -1,12 +1,12 @@
 -- `root::sqrt` meets its contract, by the pattern's tests. Assumes nothing.
 use mathlib.Core.Path.{_≡_, refl, sym, ap, _∙_, subst}
-use Prim.Native.Nat.{ℕ, _+_, _*_, _/_, _^_}
+use Prim.Native.Nat.{ℕ, _*_, _^_}
 use native.Mathlib.Omega.{arith}
 use lib.Dec.{T}
-use lib.Ieee.{Float, nan, binary64, div, ne, fits, ofBits, toBits}
+use lib.Ieee.{nan, binary64, div, fits, ofBits, toBits}
 use lib.Ieee.Compare.{differs-from-itself}
 use borrow.Author.Needs.{needs}
-use Rattle.root.specs.Root.{count, rootBits, sqrtOf}
+use Rattle.root.specs.Root.{rootBits, sqrtOf}
 use Rattle.root.specs.Normal.{count-low, normal-is}
 use Rattle.root.specs.Rounded.{root-minus-zero}
 use Rattle.root.specs.Value.{own-positive, own-other, own-kept}
