@@ -1,2 +1,8 @@
 mod Halves
 mod Patterns
+mod Whole
+pub mod Order
+mod Place
+mod Normal
+pub mod Value
+pub mod Correct

@@ -2,7 +2,8 @@
 use Prim.Native.Nat.{_+_, _-_, _*_, _^_, _≤_}
 use native.Mathlib.Omega.{arith}
 use borrow.Author.Needs.{needs}
-use Rattle.root.specs.Whole.{Over, no-tie, over-small, up}
+use Rattle.root.specs.Whole.{Over}
+use Rattle.root.proofs.Whole.{no-tie, over-small, up}
 use Rattle.root.proofs.Halves.{square-over, square-under}
 use Rattle.root.proofs.climb.Statement.{statement}
 use Rattle.root.proofs.climb.Tie as tie

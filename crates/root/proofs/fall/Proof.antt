@@ -2,7 +2,8 @@
 use Prim.Native.Nat.{_-_, _*_, _^_, _≤_}
 use native.Mathlib.Omega.{arith}
 use borrow.Author.Needs.{needs}
-use Rattle.root.specs.Whole.{Under, under-large, down}
+use Rattle.root.specs.Whole.{Under}
+use Rattle.root.proofs.Whole.{under-large, down}
 use Rattle.root.proofs.Halves.{square-over, square-under}
 use Rattle.root.proofs.fall.Statement.{statement}
 use Rattle.root.proofs.fall.Tie as tie

@@ -5,8 +5,9 @@ use native.Mathlib.Omega.{arith}
 use lib.Ieee.{binary64, ofBits}
 use borrow.Author.Needs.{needs}
 use Rattle.root.specs.Root.{rootBits}
-use Rattle.root.specs.Whole.{Over, Root, root-small}
-use Rattle.root.specs.Place.{inside, inside-ge, inside-le, root-is}
+use Rattle.root.specs.Whole.{Over, Root}
+use Rattle.root.proofs.Whole.{root-small}
+use Rattle.root.proofs.Place.{inside, inside-ge, inside-le, root-is}
 use Rattle.root.proofs.Patterns.{equals-itself}
 use Rattle.root.proofs.root.Statement.{statement}
 use Rattle.root.proofs.root.Tie as tie

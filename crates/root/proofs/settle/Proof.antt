@@ -8,7 +8,8 @@ use lib.Dec.{ltb}
 use mir.Val.{boolByte}
 use borrow.Author.Needs.{needs}
 use borrow.Author.Tests.{lt-ltb, le-ltb}
-use Rattle.root.specs.Whole.{Over, Under, Root, no-tie, up}
+use Rattle.root.specs.Whole.{Over, Under, Root}
+use Rattle.root.proofs.Whole.{no-tie, up}
 use Rattle.root.proofs.Halves.{square-over, square-under, square-small}
 use Rattle.root.proofs.settle.Statement.{statement}
 use Rattle.root.proofs.settle.Tie as tie

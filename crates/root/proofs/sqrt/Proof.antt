@@ -7,9 +7,9 @@ use lib.Ieee.{nan, binary64, div, fits, ofBits, toBits}
 use lib.Ieee.Compare.{differs-from-itself}
 use borrow.Author.Needs.{needs}
 use Rattle.root.specs.Root.{rootBits, sqrtOf}
-use Rattle.root.specs.Normal.{count-low, normal-is}
-use Rattle.root.specs.Rounded.{root-minus-zero}
-use Rattle.root.specs.Value.{own-positive, own-other, own-kept}
+use Rattle.root.proofs.Normal.{count-low, normal-is}
+use Rattle.root.specs.Examples.{root-minus-zero}
+use Rattle.root.proofs.Value.{own-positive, own-other, own-kept}
 use Rattle.root.proofs.Patterns.{equals-itself}
 use Rattle.root.proofs.sqrt.Statement.{statement}
 use Rattle.root.proofs.sqrt.Tie as tie

@@ -15,7 +15,7 @@ use lib.Ieee.Fits.{down-pos}
 use lib.Ieee.Positive.{positive, positive-of-value}
 use borrow.Author.Tests.{le-leb, lt-leb, ne-eqb}
 use Rattle.root.specs.Root.{scaled, count, rootBits, sqrtOf}
-use Rattle.root.specs.Order.{count-lt, count-le}
+use Rattle.root.proofs.Order.{count-lt, count-le}
 
 -- ---- the value of a pattern
 

@@ -6,8 +6,9 @@ use native.Mathlib.Decide.{decLt}
 use native.Mathlib.Omega.{arith}
 use lib.Pow.{pow-pos, pow-add}
 use Rattle.root.specs.Root.{scaled, count, halfway, rootBits}
-use Rattle.root.specs.Whole.{Over, Root, root-small, under-large}
-use Rattle.root.specs.Order.{count-at, count-lt, Low, Near, near-root}
+use Rattle.root.specs.Whole.{Over, Root}
+use Rattle.root.proofs.Whole.{root-small, under-large}
+use Rattle.root.proofs.Order.{count-at, count-lt, Low, Near, near-root}
 
 scaled-lead : (w u : ℕ) → scaled (suc w) u ≡ (2 ^ 52 + u) * 2 ^ w
 unfolding scaled
