@@ -1,5 +1,6 @@
 mod Halves
 mod Patterns
+mod Bounded
 mod Whole
 pub mod Order
 mod Place

@@ -15,7 +15,7 @@ unfolding scaled
 scaled-lead w u = refl
 
 -- r with its leading digit, at the exponent w
-count-is : (w r : ℕ) → 2 ^ 52 ≤ r → r ≤ 2 ^ 53 → count (w * 2 ^ 52 + r) ≡ r * 2 ^ w
+pub count-is : (w r : ℕ) → 2 ^ 52 ≤ r → r ≤ 2 ^ 53 → count (w * 2 ^ 52 + r) ≡ r * 2 ^ w
 count-is w r h g = elim (decLt r (2 ^ 53)) [
   | yes l ↦
       let e : w * 2 ^ 52 + r ≡ suc w * 2 ^ 52 + (r - 2 ^ 52) = omega arith in

@@ -13,7 +13,16 @@ pub root-least : sqrtOf (ofBits binary64 1) ≡ ofBits binary64 0x1e60_0000_0000
 unfolding sqrtOf ofBits toBits
 root-least = refl
 
--- -0.0 keeps its sign
+-- zero keeps its sign
+pub root-zero : sqrtOf (ofBits binary64 0) ≡ ofBits binary64 0
+unfolding sqrtOf ofBits
+root-zero = refl
+
 pub root-minus-zero : sqrtOf (ofBits binary64 0x8000_0000_0000_0000) ≡ ofBits binary64 0x8000_0000_0000_0000
 unfolding sqrtOf ofBits
 root-minus-zero = refl
+
+-- +infinity is itself
+pub root-infinite : sqrtOf (ofBits binary64 0x7ff0_0000_0000_0000) ≡ ofBits binary64 0x7ff0_0000_0000_0000
+unfolding sqrtOf ofBits
+root-infinite = refl

@@ -8,7 +8,7 @@ use lib.Ieee.Compare.{differs-from-itself}
 use borrow.Author.Needs.{needs}
 use Rattle.root.specs.Root.{rootBits, sqrtOf}
 use Rattle.root.proofs.Normal.{count-low, normal-is}
-use Rattle.root.specs.Examples.{root-minus-zero}
+use Rattle.root.specs.Examples.{root-zero, root-minus-zero, root-infinite}
 use Rattle.root.proofs.Value.{own-positive, own-other, own-kept}
 use Rattle.root.proofs.Patterns.{equals-itself}
 use Rattle.root.proofs.sqrt.Statement.{statement}
@@ -22,14 +22,6 @@ nan-is = refl
 root-nan : sqrtOf nan ≡ nan
 unfolding sqrtOf
 root-nan = refl
-
-root-zero : sqrtOf (ofBits binary64 0) ≡ ofBits binary64 0
-unfolding sqrtOf ofBits
-root-zero = refl
-
-root-infinite : sqrtOf (ofBits binary64 0x7ff0_0000_0000_0000) ≡ ofBits binary64 0x7ff0_0000_0000_0000
-unfolding sqrtOf ofBits
-root-infinite = refl
 
 -- what owning an `f64` tells: the format holds it
 held : (c : tie.Start) → T (fits binary64 (c .args .x))
