@@ -68,17 +68,20 @@ mul-within i j (fin t m e) (fin r n d) s h g =
     round-within _ _ _ (i + j) s
     (le-trans (mul-le-mul h g) (le-of-eq (mul-mul-mul-comm (2 ^ i) (down e) (2 ^ j) (down d) ∙ ap (λ (x : ℕ). x * (down e * down d)) (sym (pow-add 2 i j)))))
 
-sum-within : (s t : Bool) (a b c i : ℕ) → suc i ≤ 900 → a ≤ 2 ^ i * c → b ≤ 2 ^ i * c → Within (suc i + 2) (sum binary64 s a t b c)
+-- whatever holds of each of its three roundings holds of a sum
+sum-is : (P : Float → Type 0) (s t : Bool) (a b c : ℕ) → ((v : Bool) (n : ℕ) → n ≤ a + b → P (round binary64 v n c)) → P (sum binary64 s a t b c)
 unfolding sum
-sum-within s t a b c i small h g = go (Bool·beq s t) (ltb a b)
+sum-is P s t a b c h = go (Bool·beq s t) (ltb a b)
   where
-    both : a + b ≤ 2 ^ suc i * c
-    both = le-trans (add-le-add h g) (le-of-eq (sym (add-mul (2 ^ i) (2 ^ i) c) ∙ ap (λ (x : ℕ). x * c) (sym (two-pow-succ i))))
+    go : (v w : Bool) → P (cond v (round binary64 s (a + b) c) (cond w (round binary64 t (b - a) c) (round binary64 (s && ltb b a) (a - b) c)))
+    go true w = h s (a + b) (omega arith)
+    go false true = h t (b - a) (omega arith)
+    go false false = h (s && ltb b a) (a - b) (omega arith)
 
-    go : (v w : Bool) → Within (suc i + 2) (cond v (round binary64 s (a + b) c) (cond w (round binary64 t (b - a) c) (round binary64 (s && ltb b a) (a - b) c)))
-    go true w = round-within s (a + b) c (suc i) small both
-    go false true = round-within t (b - a) c (suc i) small (le-trans (omega arith) both)
-    go false false = round-within (s && ltb b a) (a - b) c (suc i) small (le-trans (omega arith) both)
+sum-within : (s t : Bool) (a b c i : ℕ) → suc i ≤ 900 → a ≤ 2 ^ i * c → b ≤ 2 ^ i * c → Within (suc i + 2) (sum binary64 s a t b c)
+sum-within s t a b c i small h g =
+    let both : a + b ≤ 2 ^ suc i * c = le-trans (add-le-add h g) (le-of-eq (sym (add-mul (2 ^ i) (2 ^ i) c) ∙ ap (λ (x : ℕ). x * c) (sym (two-pow-succ i)))) in
+    sum-is (Within (suc i + 2)) s t a b c (λ v n l. round-within v n c (suc i) small (le-trans l both))
 
 pub add-within : (i : ℕ) (x y : Float) → suc i ≤ 900 → Within i x → Within i y → Within (suc i + 2) (add binary64 x y)
 unfolding add
@@ -110,32 +113,17 @@ wider i j (fin s m e) l h = le-trans h (mul-le-mul-right (down e) (pow-mono l))
 abbrev Number : Float → Type 0
 Number x = T (not (isNan x))
 
-round-number : (s : Bool) (num den : ℕ) → Number (round binary64 s num den)
-unfolding round isNan odd
-round-number s num den = go (ltb (q * 2 ^ k) (2 ^ 2098)) q
+units-number : (s : Bool) (q k : ℕ) → Number (units binary64 s q k)
+unfolding units odd isNan
+units-number s q k = go (ltb (q * 2 ^ k) (2 ^ 2098)) q
   where
-    n : ℕ
-    n = num * 2 ^ 1074
-
-    k : ℕ
-    k = size (n / den) - 53
-
-    q : ℕ
-    q = nearest (n / (den * 2 ^ k)) (compare (n % (den * 2 ^ k) * 2) (den * 2 ^ k))
-
     go : (b : Bool) (q : ℕ) → Number (cond b (odd 54 s q k 1074) (inf s))
     go true zero = tt
     go true (suc q) = tt
     go false q = tt
 
-sum-number : (s t : Bool) (a b c : ℕ) → Number (sum binary64 s a t b c)
-unfolding sum
-sum-number s t a b c = go (Bool·beq s t) (ltb a b)
-  where
-    go : (v w : Bool) → Number (cond v (round binary64 s (a + b) c) (cond w (round binary64 t (b - a) c) (round binary64 (s && ltb b a) (a - b) c)))
-    go true w = round-number s (a + b) c
-    go false true = round-number t (b - a) c
-    go false false = round-number (s && ltb b a) (a - b) c
+round-number : (s : Bool) (num den : ℕ) → Number (round binary64 s num den)
+round-number s num den = subst⁻¹ Number (round-is binary64 s num den) (units-number s _ _)
 
 add-number : (i : ℕ) (x y : Float) → Within i x → Number y → Number (add binary64 x y)
 unfolding add isNan
@@ -143,7 +131,7 @@ add-number i nan y h g = absurd h
 add-number i (inf s) y h g = absurd h
 add-number i (fin s m e) nan h g = absurd g
 add-number i (fin s m e) (inf t) h g = tt
-add-number i (fin s m e) (fin t n d) h g = sum-number s t (m * up e * down d) (n * up d * down e) (down e * down d)
+add-number i (fin s m e) (fin t n d) h g = sum-is Number s t (m * up e * down d) (n * up d * down e) (down e * down d) (λ v k l. round-number v k (down e * down d))
 
 -- a positive number over a number
 div-number : (i : ℕ) (x y : Float) → T (positive x) → Within i y → Number (div binary64 x y)

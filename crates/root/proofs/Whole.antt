@@ -22,7 +22,7 @@ over-small t r h o =
     let s : 2 * r - 1 < 2 ^ 54 = square-lt (2 * r - 1) (2 ^ 54) (omega arith) in
     omega arith
 
--- with an even number of units there is no carry into the next exponent
+-- t is at most 2 ^ 9 times an m below 2 ^ 53, and then the root does not reach the next exponent
 pub root-small : (t r : ℕ) → t ≤ 2 ^ 62 - 2 ^ 9 → Over t r → r < 2 ^ 53
 root-small t r h o =
     let s : 2 * r - 1 < 2 ^ 54 - 1 = square-lt (2 * r - 1) (2 ^ 54 - 1) (omega arith) in
