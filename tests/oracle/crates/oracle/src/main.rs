@@ -1,0 +1,71 @@
+//! The original Rust as the judge: see tests/README.md for what each word does.
+
+mod answer;
+mod calls;
+mod pack;
+
+use std::error::Error;
+use std::io::{self, BufRead, Read, Write};
+use std::process::ExitCode;
+
+type Outcome = Result<(), Box<dyn Error>>;
+
+fn main() -> ExitCode {
+    let args: Vec<String> = std::env::args().skip(1).collect();
+    let words: Vec<&str> = args.iter().map(String::as_str).collect();
+    match dispatch(&words) {
+        Ok(()) => ExitCode::SUCCESS,
+        Err(e) => {
+            eprintln!("oracle: {e}");
+            ExitCode::FAILURE
+        }
+    }
+}
+
+fn dispatch(words: &[&str]) -> Outcome {
+    let (input, output) = (&mut io::stdin().lock(), &mut io::BufWriter::new(io::stdout().lock()));
+    match words {
+        [] => one_job(input, output)?,
+        ["jobs"] => jobs(input, output)?,
+        ["calls"] => calls(input, output)?,
+        _ => return Err(format!("no such words: {words:?}").into()),
+    }
+    output.flush()?;
+    Ok(())
+}
+
+/// One job in, its reply out.
+fn one_job(input: &mut impl Read, output: &mut impl Write) -> Outcome {
+    let mut text = Vec::new();
+    input.read_to_end(&mut text)?;
+    output.write_all(judged(0, &text).as_bytes())?;
+    Ok(())
+}
+
+/// Many jobs in, their replies out.
+fn jobs(input: &mut impl BufRead, output: &mut impl Write) -> Outcome {
+    let mut index = 0;
+    while let Some(record) = pack::next(input)? {
+        pack::put(output, judged(index, &record.text).as_bytes())?;
+        index += 1;
+    }
+    Ok(())
+}
+
+/// The reply to job `index`. The side channel is standard error: a line `nan JOB GROUP` for each
+/// group whose freedom the comparison must leave alone.
+fn judged(index: usize, text: &[u8]) -> String {
+    let checked = answer::checked(text);
+    for group in checked.nan_groups {
+        eprintln!("nan {index} {group}");
+    }
+    job::reply(&checked.answer)
+}
+
+/// Many single calls in, their replies out.
+fn calls(input: &mut impl BufRead, output: &mut impl Write) -> Outcome {
+    while let Some(record) = pack::next(input)? {
+        pack::put(output, calls::answer(&record.text)?.as_bytes())?;
+    }
+    Ok(())
+}
