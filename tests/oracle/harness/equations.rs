@@ -18,6 +18,8 @@ pub mod harness {
         pub x: Option<Vec<f64>>,
         pub iterations: usize,
         pub tries: usize,
+        /// The tries of the last iteration.
+        pub last: usize,
     }
 
     impl Rig {
@@ -59,8 +61,8 @@ pub mod harness {
         fn fit_with(&self, group: usize, equations: &[usize]) -> Run {
             counters::reset();
             let x = self.equations.fit(&self.groups[group], equations);
-            let (iterations, tries) = counters::read();
-            Run { x, iterations, tries }
+            let (iterations, tries, last) = counters::read();
+            Run { x, iterations, tries, last }
         }
 
         pub fn freedom(&self, group: usize, x: &[f64]) -> usize {

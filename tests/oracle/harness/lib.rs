@@ -11,23 +11,27 @@ pub mod counters {
     thread_local! {
         static ITERATIONS: Cell<usize> = const { Cell::new(0) };
         static TRIES: Cell<usize> = const { Cell::new(0) };
+        static LAST: Cell<usize> = const { Cell::new(0) };
     }
 
     pub fn iteration() {
         ITERATIONS.set(ITERATIONS.get() + 1);
+        LAST.set(0);
     }
 
     pub fn attempt() {
         TRIES.set(TRIES.get() + 1);
+        LAST.set(LAST.get() + 1);
     }
 
     pub fn reset() {
         ITERATIONS.set(0);
         TRIES.set(0);
+        LAST.set(0);
     }
 
-    /// Iterations and tries since the last reset.
-    pub fn read() -> (usize, usize) {
-        (ITERATIONS.get(), TRIES.get())
+    /// Iterations and tries since the last reset, and the tries of the last iteration.
+    pub fn read() -> (usize, usize, usize) {
+        (ITERATIONS.get(), TRIES.get(), LAST.get())
     }
 }

@@ -39,7 +39,7 @@ fn run(rig: &Rig, fit: impl Fn(usize) -> Run, suspects: impl Fn(usize) -> Vec<us
     let (mut groups, mut fitted, mut worst) = (Vec::new(), Vec::new(), 0.0f64);
     for group in 0..rig.groups() {
         let lowest = rig.points_of(group)[0];
-        let Run { x, iterations, tries } = fit(group);
+        let Run { x, iterations, tries, .. } = fit(group);
         let Some(x) = x else {
             let failure = Failure { lowest, iterations, tries, suspects: suspects(group) };
             return (Answer::Failed(failure), Vec::new());
@@ -58,7 +58,7 @@ fn run(rig: &Rig, fit: impl Fn(usize) -> Run, suspects: impl Fn(usize) -> Vec<us
 fn agreed(plain: Run, counted: counted::Run) -> Run {
     let bits = |x: &Option<Vec<f64>>| x.as_ref().map(|x| x.iter().map(|v| v.to_bits()).collect::<Vec<_>>());
     assert_eq!(bits(&plain.x), bits(&counted.x), "the two copies of the solver differ");
-    Run { iterations: counted.iterations, tries: counted.tries, ..plain }
+    Run { iterations: counted.iterations, tries: counted.tries, last: counted.last, ..plain }
 }
 
 /// The Rust's suspects, each of the fits behind them run in both copies.

@@ -2,6 +2,8 @@
 
 mod answer;
 mod calls;
+mod figures;
+mod generate;
 mod pack;
 
 use std::error::Error;
@@ -28,6 +30,9 @@ fn dispatch(words: &[&str]) -> Outcome {
         [] => one_job(input, output)?,
         ["jobs"] => jobs(input, output)?,
         ["calls"] => calls(input, output)?,
+        ["figures"] => figures::of_jobs(input, output)?,
+        ["generate", "jobs", seed, count] => generate(output, generate::job, seed, count)?,
+        ["generate", "calls", seed, count] => generate(output, generate::call, seed, count)?,
         _ => return Err(format!("no such words: {words:?}").into()),
     }
     output.flush()?;
@@ -66,6 +71,16 @@ fn judged(index: usize, text: &[u8]) -> String {
 fn calls(input: &mut impl BufRead, output: &mut impl Write) -> Outcome {
     while let Some(record) = pack::next(input)? {
         pack::put(output, calls::answer(&record.text)?.as_bytes())?;
+    }
+    Ok(())
+}
+
+/// `count` texts of a seed, each with its class.
+fn generate(output: &mut impl Write, make: impl Fn(u64, u64) -> generate::Made, seed: &str, count: &str) -> Outcome {
+    let (seed, count): (u64, u64) = (seed.parse()?, count.parse()?);
+    for index in 0..count {
+        let made = make(seed, index);
+        pack::put_classed(output, made.class, &made.text)?;
     }
     Ok(())
 }
