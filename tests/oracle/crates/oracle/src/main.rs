@@ -5,6 +5,7 @@ mod calls;
 mod figures;
 mod generate;
 mod pack;
+mod time;
 
 use std::error::Error;
 use std::io::{self, BufRead, Read, Write};
@@ -30,6 +31,10 @@ fn dispatch(words: &[&str]) -> Outcome {
         [] => one_job(input, output)?,
         ["jobs"] => jobs(input, output)?,
         ["calls"] => calls(input, output)?,
+        ["time", "job", runs] => time::job(output, &read_all(input)?, runs.parse()?)?,
+        ["time", "calls", runs] => time::calls(output, runs.parse()?)?,
+        ["time", "sweep"] => output.write_all(&job::write(&generate::sweep()))?,
+        ["pick", index] => pick(input, output, index.parse()?)?,
         ["figures"] => figures::of_jobs(input, output)?,
         ["generate", "jobs", seed, count] => generate(output, generate::job, seed, count)?,
         ["generate", "calls", seed, count] => generate(output, generate::call, seed, count)?,
@@ -41,9 +46,23 @@ fn dispatch(words: &[&str]) -> Outcome {
 
 /// One job in, its reply out.
 fn one_job(input: &mut impl Read, output: &mut impl Write) -> Outcome {
+    output.write_all(judged(0, &read_all(input)?).as_bytes())?;
+    Ok(())
+}
+
+fn read_all(input: &mut impl Read) -> io::Result<Vec<u8>> {
     let mut text = Vec::new();
     input.read_to_end(&mut text)?;
-    output.write_all(judged(0, &text).as_bytes())?;
+    Ok(text)
+}
+
+/// One text out of many, by its index.
+fn pick(input: &mut impl BufRead, output: &mut impl Write, index: usize) -> Outcome {
+    for _ in 0..index {
+        pack::next(input)?;
+    }
+    let record = pack::next(input)?.ok_or("there are not so many texts")?;
+    output.write_all(&record.text)?;
     Ok(())
 }
 

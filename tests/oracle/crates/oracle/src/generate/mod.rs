@@ -10,7 +10,7 @@ mod soups;
 
 pub use calls::call;
 
-use job::{Build, Field, MAX_EQUATIONS, MAX_ROWS};
+use job::{Build, EQUATIONS, Field, Kind, MAX_EQUATIONS, MAX_ROWS};
 
 use figure::{Figure, Hold};
 use rng::Rng;
@@ -97,7 +97,7 @@ fn determine(rng: &mut Rng, fig: &mut Figure) {
 
 fn decorate(rng: &mut Rng, fig: &mut Figure) {
     if rng.chance(0.2) && fig.room(0, 0, 0) {
-        fig.add(job::Kind::Held, &[]);
+        fig.add(Kind::Held, &[]);
     }
     if rng.chance(0.3) {
         let p = rng.below(fig.points.len());
@@ -199,4 +199,29 @@ fn far(rng: &mut Rng) -> Build {
     // The truth of a large figure can lie beyond the bounds in units of a small size.
     build.equations.retain(|e| !e.fields.iter().any(|f| matches!(f, Field::Value(v) if v.abs() > job::MAX_MAGNITUDE)));
     build
+}
+
+/// Fixed numbers from −1 to 1.
+pub fn numbers(count: usize) -> Vec<f64> {
+    let rng = &mut Rng::new(0, 0);
+    (0..count).map(|_| rng.range(-1.0, 1.0)).collect()
+}
+
+/// A fixed build whose one group has two equations of each kind that has rows.
+pub fn sweep() -> Build {
+    let rng = &mut Rng::new(0, 1);
+    let mut fig = Figure::default();
+    for i in 0..24 {
+        let p = fig.point([rng.range(-1.0, 1.0), rng.range(-1.0, 1.0)]);
+        if i > 0 {
+            fig.line(p - 1, p);
+        }
+    }
+    let lines = fig.lines.len();
+    for kind in EQUATIONS.into_iter().filter(|&k| k != Kind::Held) {
+        for _ in 0..2 {
+            fig.equations.push(soups::wild_equation(rng, &[kind], 24, lines));
+        }
+    }
+    fig.build(rng, [0.0; 2], 1.0, 0.0)
 }
