@@ -8,7 +8,7 @@ use std::io::{BufRead, Write};
 use counted::{Rig, Run};
 use job::{Build, EQUATIONS, Kind, Status};
 
-use crate::pack;
+use crate::{generate, pack};
 
 const FITTED: Status = 0;
 const FAILED: Status = 7;
@@ -163,4 +163,15 @@ pub fn of_jobs(input: &mut impl BufRead, output: &mut impl Write) -> Result<(), 
     tally.print(output)?;
     output.flush()?;
     Ok(tally.hold()?)
+}
+
+/// The jobs of a seed in which some group's fit ends so: index, class and length of each.
+pub fn find(output: &mut impl Write, wanted: &str, seed: u64, count: u64) -> Result<(), Box<dyn Error>> {
+    for index in 0..count {
+        let made = generate::job(seed, index);
+        if look(&made.text).groups.iter().any(|(_, run)| format!("{:?}", ending(run)) == wanted) {
+            writeln!(output, "{index} {} {}", made.class, made.text.len())?;
+        }
+    }
+    Ok(())
 }

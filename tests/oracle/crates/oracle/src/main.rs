@@ -5,6 +5,7 @@ mod calls;
 mod figures;
 mod generate;
 mod pack;
+mod record;
 mod time;
 
 use std::error::Error;
@@ -34,7 +35,11 @@ fn dispatch(words: &[&str]) -> Outcome {
         ["time", "job", runs] => time::job(output, &read_all(input)?, runs.parse()?)?,
         ["time", "calls", runs] => time::calls(output, runs.parse()?)?,
         ["time", "sweep"] => output.write_all(&job::write(&generate::sweep()))?,
+        ["generate", "job", seed, index] => output.write_all(&generate::job(seed.parse()?, index.parse()?).text)?,
+        ["generate", "call", seed, index] => output.write_all(&generate::call(seed.parse()?, index.parse()?).text)?,
         ["pick", index] => pick(input, output, index.parse()?)?,
+        ["record", folder, seed, extra @ ..] => record::sample(folder.as_ref(), seed.parse()?, extra)?,
+        ["find", ending, seed, count] => figures::find(output, ending, seed.parse()?, count.parse()?)?,
         ["figures"] => figures::of_jobs(input, output)?,
         ["generate", "jobs", seed, count] => generate(output, generate::job, seed, count)?,
         ["generate", "calls", seed, count] => generate(output, generate::call, seed, count)?,

@@ -30,3 +30,10 @@ pub fn put_classed(output: &mut impl Write, class: &str, text: &[u8]) -> io::Res
     writeln!(output, "{} {class}", text.len())?;
     output.write_all(text)
 }
+
+/// A text and its reply in one record, as a recorded sample has them.
+pub fn put_answered(output: &mut impl Write, text: &[u8], reply: &[u8]) -> io::Result<()> {
+    writeln!(output, "{} {}", text.len(), reply.len())?;
+    output.write_all(text)?;
+    output.write_all(reply)
+}
