@@ -111,6 +111,11 @@ fn decorate(rng: &mut Rng, fig: &mut Figure) {
             fig.hold(p, hold);
         }
     }
+    if rng.chance(0.1) && fig.room(0, 1, 0) {
+        // A line of no length: measured, it gives NaN.
+        let p = rng.below(fig.points.len());
+        fig.line(p, p);
+    }
     let measures = rng.below(5);
     fig.measure(rng, measures);
     if rng.chance(0.3) {
@@ -127,7 +132,19 @@ fn finish(rng: &mut Rng, fig: &Figure) -> Build {
     if rng.chance(0.2) {
         build.centre = [0.0; 2];
     }
+    if rng.chance(0.1) {
+        negate_zeros(&mut build);
+    }
     build
+}
+
+/// Every start at 0.0 becomes -0.0.
+fn negate_zeros(build: &mut Build) {
+    for v in build.points.iter_mut().flat_map(|p| &mut p.start) {
+        if *v == 0.0 {
+            *v = -0.0;
+        }
+    }
 }
 
 /// Two to four small sections side by side.

@@ -203,7 +203,9 @@ pub fn levels(rng: &mut Rng) -> Figure {
     fig
 }
 
-/// A long run of points on one height, tied to each other at random and not dimensioned.
+/// A long run of points on one height, tied to each other at random and not dimensioned. Held
+/// points may be off the height by less than the tolerance: the fit lets that pass, and levelling
+/// must choose.
 pub fn run_of_levels(rng: &mut Rng) -> Figure {
     let mut fig = Figure::default();
     let (axis, height) = (rng.below(2), size(rng, 0, 300));
@@ -221,6 +223,7 @@ pub fn run_of_levels(rng: &mut Rng) -> Figure {
         let held = rng.below(count);
         let hold = rng.pick(&[Hold::Kept, Hold::Placed]);
         fig.hold(held, hold);
+        fig.points[held].0[axis] += rng.pick(&[0.0, 0.0, 1e-12, 3e-11, -1e-11]);
     }
     fig
 }
