@@ -6,6 +6,7 @@ mod figures;
 mod generate;
 mod pack;
 mod record;
+mod sketches;
 mod time;
 
 use std::error::Error;
@@ -40,6 +41,7 @@ fn dispatch(words: &[&str]) -> Outcome {
         ["pick", index] => pick(input, output, index.parse()?)?,
         ["record", folder, seed, extra @ ..] => record::sample(folder.as_ref(), seed.parse()?, extra)?,
         ["find", ending, seed, count] => figures::find(output, ending, seed.parse()?, count.parse()?)?,
+        ["sketches", seed, count] => writeln!(output, "{} sketches answered alike", sketches::agree(seed.parse()?, count.parse()?)?)?,
         ["figures"] => figures::of_jobs(input, output)?,
         ["generate", "jobs", seed, count] => generate(output, generate::job, seed, count)?,
         ["generate", "calls", seed, count] => generate(output, generate::call, seed, count)?,

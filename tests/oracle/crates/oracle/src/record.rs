@@ -21,7 +21,7 @@ const CALLS: u64 = 27 * 120;
 /// A text beyond this is taken for its status alone.
 const LONG: usize = 8_000;
 /// A call and its reply beyond this are left out.
-const LONG_CALL: usize = 4_000;
+const LONG_CALL: usize = 3_500;
 /// Examples of each class in each status, and of each class of calls.
 const EXAMPLES: usize = 2;
 const FORM_EXAMPLES: usize = 30;

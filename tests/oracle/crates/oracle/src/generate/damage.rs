@@ -7,13 +7,14 @@ use super::{Made, drawn, sections, several, soups, true_soup};
 
 pub fn job(rng: &mut Rng) -> Made {
     let build = sound(rng);
-    match rng.below(10) {
+    match rng.below(11) {
         0 => Made { class: "damaged-length", text: too_long(rng, job::write(&build)) },
         1 => Made { class: "damaged-count", text: too_many(rng, job::write(&build)) },
         2 => Made { class: "damaged-number", text: job::write(&bad_number(rng, build)) },
         3 => Made { class: "damaged-reference", text: job::write(&bad_reference(rng, build)) },
         4 => Made { class: "damaged-rows", text: job::write(&too_many_rows(rng, build)) },
-        5 => Made { class: "damaged-byte", text: one_byte(rng, job::write(&build)) },
+        5 => Made { class: "damaged-twice", text: damaged_twice(rng, build) },
+        6 => Made { class: "damaged-byte", text: one_byte(rng, job::write(&build)) },
         _ => Made { class: "damaged-form", text: bad_form(rng, job::write(&build)) },
     }
 }
@@ -33,7 +34,17 @@ fn too_long(rng: &mut Rng, mut text: Vec<u8>) -> Vec<u8> {
     text
 }
 
-/// A count beyond its bound; what follows no longer matters, so it is cut or broken at will.
+/// Two things broken at once: the order of the refusals decides.
+fn damaged_twice(rng: &mut Rng, build: Build) -> Vec<u8> {
+    let crowded = if rng.chance(0.5) { too_many_rows(rng, build) } else { build };
+    let dangling = bad_reference(rng, crowded);
+    let build = if rng.chance(0.5) { bad_number(rng, dangling) } else { dangling };
+    let text = job::write(&build);
+    if rng.chance(0.3) { bad_form(rng, text) } else { text }
+}
+
+/// A count beyond its bound; what follows no longer matters, so it is cut or broken at will. A
+/// count line that is broken itself still comes first.
 fn too_many(rng: &mut Rng, text: Vec<u8>) -> Vec<u8> {
     let mut lines = split(&text);
     let which = rng.below(4);
@@ -41,9 +52,10 @@ fn too_many(rng: &mut Rng, text: Vec<u8>) -> Vec<u8> {
     let count = rng.pick(&[bound, bound + 1, 99_999]);
     let key = ["points", "lines", "equations", "measures"][which];
     lines[which] = format!("{key}={count}\n").into_bytes();
-    match rng.below(3) {
+    match rng.below(4) {
         0 => lines.truncate(4),
         1 => lines.push(b"anything".to_vec()),
+        2 => lines[(which + 1) % 4].insert(0, b' '),
         _ => {}
     }
     lines.concat()
@@ -145,15 +157,20 @@ fn break_form(rng: &mut Rng, text: &[u8]) -> Vec<u8> {
         }
         7 => lines[at].make_ascii_uppercase(),
         8 => lines.push(rng.pick(&[&b"m=distance,0,0\n"[..], b"\n", b"x", b"\0"]).to_vec()),
-        9 => lines[at] = [&lines[at][..lines[at].len() - 1], b",0\n"].concat(),
+        9 => {
+            let more = rng.pick(&[&b",0\n"[..], b",3ff0000000000000\n", b",+\n", b",\n"]);
+            lines[at] = [&lines[at][..lines[at].len() - 1], more].concat();
+        }
         _ => lines[at] = respelled(rng, &lines[at]),
     }
     lines.concat()
 }
 
 /// Spellings that look right: each word of a line has some.
-const SPELLINGS: [(&str, &str); 22] = [
+const SPELLINGS: [(&str, &str); 32] = [
     ("=", "=0"),
+    ("=", "=10000"),
+    ("=", "=\n"),
     ("=", "=+"),
     ("=", "=-"),
     ("=", " ="),
@@ -161,6 +178,11 @@ const SPELLINGS: [(&str, &str); 22] = [
     (",", ", "),
     (",", ",,"),
     (",", ",0"),
+    (",", ",10000"),
+    ("a", "A"),
+    ("b", "B"),
+    ("c", "C"),
+    ("d", "g"),
     (",", ";"),
     (",-", ",\u{2212}"),
     (",+", ",1"),
@@ -174,6 +196,9 @@ const SPELLINGS: [(&str, &str); 22] = [
     (",o", ",O"),
     ("e=distance", "e=angle"),
     ("e=radius", "e=arclength"),
+    ("e=length", "e=arcangle"),
+    ("m=distance", "m=coincident"),
+    ("m=radius", "m=level"),
     ("e=", "m="),
 ];
 
