@@ -1,5 +1,6 @@
-//! What a set of jobs holds: tables by class, status, kind, iterations and ending. Fails where
-//! fewer than half of the sound jobs converge after real iterations, or a kind is not among them.
+//! What a set of jobs or calls holds. Of jobs, tables by class, status, kind, iterations and ending;
+//! it fails unless over half of the sound ones converge after real iterations with every kind among
+//! them. Of calls, a table by class and sort of reply.
 
 use std::collections::BTreeMap;
 use std::error::Error;
@@ -8,7 +9,7 @@ use std::io::{BufRead, Write};
 use counted::{Rig, Run};
 use job::{Build, EQUATIONS, Kind, Status};
 
-use crate::{generate, pack};
+use crate::{calls, generate, pack};
 
 const FITTED: Status = 0;
 const FAILED: Status = 7;
@@ -163,6 +164,29 @@ pub fn of_jobs(input: &mut impl BufRead, output: &mut impl Write) -> Result<(), 
     tally.print(output)?;
     output.flush()?;
     Ok(tally.hold()?)
+}
+
+/// A reply's sort: its first word, a status with its number; or that it is bare floats.
+pub fn sort(reply: &str) -> &str {
+    let first = reply.lines().next().unwrap_or("nothing");
+    match first.split_once('=') {
+        Some((key, _)) if key != "status" => key,
+        _ if first.len() >= 16 => "floats",
+        _ => first,
+    }
+}
+
+pub fn of_calls(input: &mut impl BufRead, output: &mut impl Write) -> Result<(), Box<dyn Error>> {
+    let mut sorts: BTreeMap<(String, String), usize> = BTreeMap::new();
+    while let Some(record) = pack::next(input)? {
+        let reply = calls::answer(&record.text)?;
+        *sorts.entry((record.class, sort(&reply).to_string())).or_default() += 1;
+    }
+    writeln!(output, "| class | reply | calls |\n|---|---|---|")?;
+    for ((class, sort), count) in sorts {
+        writeln!(output, "| {class} | {sort} | {count} |")?;
+    }
+    Ok(())
 }
 
 /// The jobs of a seed in which some group's fit ends so: index, class and length of each.

@@ -11,7 +11,7 @@ use std::path::Path;
 use job::{Answer, Build, Contact, Equation, Field, Kind, MAX_MAGNITUDE, MIN_SIZE, Radius, State};
 
 use crate::answer::{Checked, checked};
-use crate::figures::{Seen, ending, look};
+use crate::figures::{Seen, ending, look, sort};
 use crate::generate::{self, Made};
 use crate::{calls, pack};
 
@@ -179,13 +179,7 @@ fn call_traits(made: &Made, reply: &str) -> Vec<(String, usize)> {
     let head = String::from_utf8_lossy(&made.text);
     let mut words = head.split([' ', '\n']);
     let (name, shape) = (words.next().unwrap_or(""), words.next().unwrap_or(""));
-    let first = reply.lines().next().unwrap_or("");
-    let sort = match first.split_once('=') {
-        Some((key, _)) if key != "status" => key,
-        _ if first.len() >= 16 => "floats",
-        _ => first,
-    };
-    let mut traits = vec![(format!("{} {name} {sort}", made.class), CALL_EXAMPLES)];
+    let mut traits = vec![(format!("{} {name} {}", made.class, sort(reply)), CALL_EXAMPLES)];
     if name == "rows" {
         let kinds = head.lines().filter_map(|line| line.strip_prefix("e=")?.split(',').next());
         traits.extend(kinds.map(|kind| (format!("rows of {kind}"), 2)));
