@@ -1,5 +1,5 @@
 -- What a library build ends in before its fit: document 01's 3, 4, 5 and 6, in 01's order.
-use mathlib.Core.Bool.{Bool, not, cond, _||_}
+use mathlib.Core.Bool.{Bool, true, false, not, _||_}
 use Prim.Native.Nat.{ℕ}
 use lib.Dec.{ltb}
 use Rattle.sketch.specs.Indices.{foundBuild}
@@ -40,9 +40,13 @@ refersToNothing b = not (foundBuild b)
 abbrev pub overRows : Build → Bool
 overRows b = ltb 64 (rowsOfBuild b)
 
+-- the first of the four that holds decides
+abbrev pub ordered : Bool → Bool → Bool → Bool → Checked
+ordered true u m r = Ends TooMany
+ordered false true m r = Ends OutOfBounds
+ordered false false true r = Ends NoSuchItem
+ordered false false false true = Ends TooManyRows
+ordered false false false false = Passes
+
 unfoldable pub checkOf : Build → Checked
-checkOf b =
-    cond (overBound b) (Ends TooMany)
-    (cond (outOfBounds b) (Ends OutOfBounds)
-    (cond (refersToNothing b) (Ends NoSuchItem)
-    (cond (overRows b) (Ends TooManyRows) Passes)))
+checkOf b = ordered (overBound b) (outOfBounds b) (refersToNothing b) (overRows b)

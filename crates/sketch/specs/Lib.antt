@@ -4,3 +4,4 @@ pub mod Indices
 pub mod Rows
 pub mod Involved
 pub mod Check
+pub mod Given

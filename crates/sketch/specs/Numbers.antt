@@ -1,8 +1,10 @@
 -- Number 4 of document 01: the bounds of a build's numbers, inclusive. Sides and axes count among them.
-use mathlib.Core.Bool.{Bool, true, _&&_, _||_}
+use mathlib.Core.Bool.{Bool, true, false, _&&_, _||_}
+use mathlib.Core.Path.{_≡_, refl}
 use Prim.Native.Nat.{ℕ}
 use lib.Dec.{ltb}
-use lib.Ieee.{Float, le, eq, neg}
+use lib.Ieee.{Float, nan, inf, fin, le, lt, eq, neg, ofBits}
+use lib.Ieee.Scale.{finite}
 use Rattle.floats.specs.Ops.{one, million, 1/1024}
 use Rattle.loops.specs.Turns.{every}
 use Rattle.plane.specs.declared.Vec2.{Vec2}
@@ -19,9 +21,17 @@ use Rattle.sketch.specs.declared.Rad.{Rad}
 use Rattle.sketch.specs.declared.State.{State}
 use Rattle.sketch.specs.declared.State.the-variants.{Free, Kept, Placed}
 
--- of magnitude at most 1,000,000, which neither a NaN nor an infinity is
+-- of magnitude at most 1,000,000
 abbrev pub bounded : Float → Bool
 bounded x = le (neg million) x && le x million
+
+-- so neither a NaN nor an infinity
+pub bounded-finite : (x : Float) → bounded x ≡ true → finite x ≡ true
+unfolding le lt eq neg ofBits
+bounded-finite nan h = h
+bounded-finite (inf true) h = h
+bounded-finite (inf false) h = h
+bounded-finite (fin s m e) h = refl
 
 abbrev pub sized : Float → Bool
 sized x = le 1/1024 x && le x million

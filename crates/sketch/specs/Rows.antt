@@ -7,7 +7,7 @@ use Rattle.sketch.specs.declared.Active.{Active}
 use Rattle.sketch.specs.declared.Build.{Build}
 use Rattle.sketch.specs.declared.Equation.{Equation}
 
-abbrev pub rowsOf : Equation → ℕ
+unfoldable pub rowsOf : Equation → ℕ
 rowsOf (Equation.Coincident a b) = 2
 rowsOf (Equation.Level a b axis) = 1
 rowsOf (Equation.Parallel i j) = 1

@@ -1,8 +1,15 @@
 // The build: its numbers, points, lines, equations and measures, and the check before a fit (equations.rs, `Eq`, `Rad`,
 // `Contact`, `Equations`, `involved`). What stands past a count is no part of the build and may be anything.
-ghost use mathlib.Core.Path.{_≡_};
-ghost use Rattle.sketch.specs.Check.{checkOf, overOf};
+mod checks;
+mod counts;
+mod indices;
+mod numbers;
+mod touches;
+
+pub use checks::check;
+pub use counts::rows;
 use plane::Vec2;
+pub use touches::involved;
 
 // A point number.
 pub struct PointNo(pub usize);
@@ -99,6 +106,12 @@ pub struct Build {
     pub measure_count: usize,
 }
 
+// The points that an equation touches: at most four; the places past the count hold point 0.
+pub struct Touched {
+    pub points: [PointNo; 4],
+    pub count: usize,
+}
+
 // The endings of a job, by name; document 01's number of each is `numberOf`.
 pub enum Ending {
     Fitted,
@@ -116,11 +129,4 @@ pub enum Ending {
 pub enum Checked {
     Passes,
     Ends(Ending),
-}
-
-// Whether a count is over its bound.
-fn counts_over(b: Build) -> bool
-    ensures { λ r. ⌜ r ≡ overOf b ⌝ }
-{
-    (b.point_count > 40) | (b.line_count > 40) | (b.equation_count > 40) | (b.measure_count > 20)
 }

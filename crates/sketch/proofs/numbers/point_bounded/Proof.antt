@@ -1,0 +1,10 @@
+-- Assumes nothing.
+use borrow.Author.Needs.{needs}
+use Rattle.sketch.proofs.numbers.point_bounded.Statement.{statement}
+use Rattle.sketch.proofs.numbers.point_bounded.Tie as tie
+
+returns : tie.Need-returns
+returns c = rw (c .state-bounded .ensures, c .before .vec-bounded .ensures)
+
+pub point-bounded-spec : {M : Type 1} → statement M
+point-bounded-spec = tie.close (tie.spec (λ c κs. search needs) (λ c κs. search needs) returns)
