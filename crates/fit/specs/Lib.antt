@@ -1,3 +1,0 @@
-pub mod Solve
-pub mod Holds
-pub mod Attempt
