@@ -93,7 +93,8 @@ fn solve_square(a: &mut [f64], b: &mut [f64], n: usize) -> bool
     back::all_finite(b)
 }
 
-fn clear(s: &mut [f64])
+// Every place +0.0.
+pub fn clear(s: &mut [f64])
     ensures { λ _. ⌜ now (s .exit) ≡ replicate (length (now (s .entry))) zero⁺ ⌝ }
 {
     for i in 0..s.len() {
