@@ -8,16 +8,15 @@ ghost use Rattle.floats.specs.Lists.{copiedOf};
 ghost use Rattle.floats.specs.Magnitude.{absOf, magnitudeOf, maxOf};
 ghost use Rattle.floats.specs.Ops.{zero⁺};
 
-// x without its sign.
+// x without its sign, by its bits: a branch on the sign would be mispredicted every second time in a scan over a matrix. A
+// NaN has no bits of its own, so it is tested for first.
 pub fn abs(x: f64) -> f64
     ensures { λ r. ⌜ r ≡ absOf x ⌝ }
 {
-    if x < 0.0 {
-        -x
-    } else if x == 0.0 {
-        0.0
-    } else {
+    if x != x {
         x
+    } else {
+        f64::from_bits(f64::to_bits(x) % 0x8000_0000_0000_0000)
     }
 }
 
@@ -41,15 +40,14 @@ pub fn max(a: f64, b: f64) -> f64
     }
 }
 
-// The place of x in the order of magnitudes. A NaN has no bits of its own, so it is tested for first.
+// The place of x in the order of magnitudes.
 pub fn magnitude(x: f64) -> u64
     ensures { λ r. ⌜ r ≡ magnitudeOf x ⌝ }
 {
-    let a = abs(x);
-    if a != a {
+    if x != x {
         0x7ff8_0000_0000_0000
     } else {
-        f64::to_bits(a)
+        f64::to_bits(x) % 0x8000_0000_0000_0000
     }
 }
 
