@@ -11,6 +11,7 @@ ghost use Rattle.solver.specs.Promise.{Solves};
 mod back;
 mod below;
 mod pivot;
+mod size;
 
 // The largest magnitude, and infinite where the last number that is not finite has nothing finite after it that is larger.
 pub fn max_abs(v: &[f64]) -> f64
@@ -27,7 +28,7 @@ fn larger_abs(m: f64, a: f64) -> f64
     ensures { λ r. ⌜ r ≡ largerAbs m a ⌝ }
 {
     if floats::is_finite(a) {
-        floats::max(m, floats::abs(a))
+        floats::max(m, size::abs(a))
     } else {
         1.0 / 0.0
     }

@@ -1,0 +1,4 @@
+pub mod Root
+pub mod Rounded
+pub mod Examples
+pub mod Whole

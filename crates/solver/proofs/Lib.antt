@@ -1,0 +1,2 @@
+-- The sign's bit of a float.
+pub mod Sign
