@@ -10,8 +10,8 @@ use borrow.Author.Tests.{eq-eqb, ne-eqb, not-true, not-false}
 use lib.Dec.{eqb}
 use lib.ListN.{length, getD, set, take, drop, length-take}
 use lib.Seq.{getD-take}
-use Rattle.groups.specs.Forest.{getD-any, Kept, root-next, root-done, root-kept, root-is, rt-low, join-falls, halved-falls, halved-up}
-use Rattle.groups.specs.Keeps.{upTo-keeps}
+use Rattle.groups.proofs.Forest.{getD-any, Kept, root-next, root-done, root-kept, root-is, rt-low, join-falls, halved-falls, halved-up}
+use Rattle.groups.proofs.Keeps.{upTo-keeps}
 use Rattle.groups.specs.Listed.{pointOf, enteredOf, numberedOf, groupOf, listEquation, listEquations, listPoint, listPoints, groupsOf}
 use Rattle.groups.specs.Parents.{up, Falls, Gives, halved, rootOf, joinTo, joinAll, joined, alone}
 use Rattle.groups.specs.Touches.{number, numberAt, numbersOf, touchedIn, held}

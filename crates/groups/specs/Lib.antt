@@ -1,6 +1,5 @@
 pub mod Touches
 pub mod Parents
-pub mod Keeps
-pub mod Forest
 pub mod Tied
 pub mod Listed
+pub mod Chains

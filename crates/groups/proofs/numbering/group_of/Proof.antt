@@ -1,7 +1,7 @@
 use mathlib.Core.List.{List}
 use Prim.Native.Nat.{ℕ, _≤_, _<_}
 use lib.ListN.{getD, List·getD-eq-default}
-use Rattle.groups.specs.Forest.{getD-any}
+use Rattle.groups.proofs.Forest.{getD-any}
 use Rattle.groups.specs.Touches.{numberAt, numbersOf}
 use lib.ListN.{length}
 use Rattle.groups.proofs.Laws.{group-none, group-owned, numbers-length, number-at}

@@ -2,7 +2,7 @@ use Rattle.sketch.specs.declared.Touched.{Touched}
 use Rattle.loops.specs.Turns.{fold, fold-next, fold-done}
 use Rattle.groups.specs.Touches.{numberAt, numbersOf}
 use Rattle.groups.specs.Parents.{Falls, joinTo, joinAll}
-use Rattle.groups.specs.Forest.{join-falls}
+use Rattle.groups.proofs.Forest.{join-falls}
 use lib.ListN.{length, getD, drop}
 use mathlib.Core.List.{List}
 use Prim.Native.Nat.{ℕ, _+_, _-_, _<_}

@@ -1,6 +1,6 @@
 use mathlib.Core.Path.{sym}
 use lib.ListN.{List·getD-eq-default}
-use Rattle.groups.specs.Forest.{getD-any}
+use Rattle.groups.proofs.Forest.{getD-any}
 use borrow.Author.Needs.{needs}
 use Rattle.groups.proofs.parents.up.Statement.{statement}
 use Rattle.groups.proofs.parents.up.Tie as tie

@@ -2,7 +2,7 @@ use mathlib.Core.List.{List}
 use mathlib.Core.Path.{_≡_}
 use Prim.Native.Nat.{ℕ}
 use lib.ListN.{length}
-use Rattle.groups.specs.Forest.{alone-falls}
+use Rattle.groups.proofs.Forest.{alone-falls}
 use Rattle.groups.specs.Parents.{Falls, alone, joined}
 use Rattle.groups.specs.Touches.{touchedBy}
 use Rattle.groups.proofs.Laws.{joined-falls, points-falls, groups-are}

@@ -18,7 +18,7 @@ use borrow.Author.Tests.{eqb-true, eqb-false, eq-eqb, ne-eqb}
 use lib.Dec.{eqb}
 use lib.ListN.{length, getD, set, drop, replicate, length-set, List·getD-eq-default}
 use lib.Seq.{getD-set-same, getD-set-other, set-out}
-use Rattle.groups.specs.Keeps.{upTo-keeps}
+use Rattle.groups.proofs.Keeps.{upTo-keeps}
 use Rattle.groups.specs.Parents.{up, Falls, Gives, halved, climb, rootOf, joinTo, joinAll, joined, selfAt, alone}
 
 pub getD-any : {A : Type 0} (l : List A) (i : ℕ) (d e : A) → i < length l → getD l i d ≡ getD l i e
@@ -251,7 +251,7 @@ module _ (ps : List ℕ) (x : ℕ) (f : Falls ps) where
 unfoldable pub merged : ℕ → ℕ → ℕ → ℕ
 merged a b r = cond (eqb r a) b r
 
-merged-at : (a b : ℕ) → merged a b a ≡ b
+pub merged-at : (a b : ℕ) → merged a b a ≡ b
 unfolding merged
 merged-at a b = rw (eq-eqb a a refl)
 
@@ -259,7 +259,7 @@ merged-other : (a b r : ℕ) → r ≢ a → merged a b r ≡ r
 unfolding merged
 merged-other a b r n = rw (ne-eqb r a n)
 
-merged-low : (a b : ℕ) → merged a b b ≡ b
+pub merged-low : (a b : ℕ) → merged a b b ≡ b
 merged-low a b = go (ℕ-discrete b a)
   where
     go : Dec (b ≡ a) → merged a b b ≡ b
