@@ -24,7 +24,7 @@ pub fn true_soup(rng: &mut Rng, equations: usize) -> Figure {
 
 /// A point anywhere, or one the figure has already.
 fn some_point(rng: &mut Rng, fig: &mut Figure) -> usize {
-    if !fig.points.is_empty() && rng.chance(0.5) { rng.below(fig.points.len()) } else { fig.point([rng.range(-500.0, 500.0), rng.range(-500.0, 500.0)]) }
+    if !fig.points.is_empty() && rng.chance(0.5) { rng.below(fig.points.len()) } else { fig.point(anywhere(rng)) }
 }
 
 /// A line anywhere, or one the figure has already.
@@ -209,8 +209,7 @@ pub fn wild_soup(rng: &mut Rng) -> Build {
     let point = |rng: &mut Rng| rng.below(points.len());
     let lines: Vec<[usize; 2]> = (0..rng.below(7)).map(|_| [point(rng), point(rng)]).collect();
     let usable = |kind: &Kind| !lines.is_empty() || !kind.slots().contains(&Slot::Line);
-    let (kinds, measures): (Vec<Kind>, Vec<Kind>) =
-        (EQUATIONS.into_iter().filter(usable).collect(), MEASURES.into_iter().filter(usable).collect());
+    let (kinds, measures): (Vec<Kind>, Vec<Kind>) = (EQUATIONS.into_iter().filter(usable).collect(), MEASURES.into_iter().filter(usable).collect());
     let equation = |rng: &mut Rng, kinds: &[Kind]| wild_equation(rng, kinds, points.len(), lines.len());
     let count = rng.between(1, 9);
     let mut equations: Vec<Equation> = (0..count).map(|_| equation(rng, &kinds)).collect();
