@@ -17,7 +17,7 @@ use crate::{calls, pack};
 
 /// Texts to choose from.
 const JOBS: u64 = 20_000;
-const CALLS: u64 = 29 * 120;
+const CALLS: u64 = 30 * 120;
 /// A text beyond this is taken for its status alone.
 const LONG: usize = 8_000;
 /// A call and its reply beyond this are left out.

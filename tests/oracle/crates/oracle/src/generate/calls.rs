@@ -5,7 +5,7 @@ use super::{Made, several, soups, true_soup};
 
 type Case = fn(&mut Rng, u64) -> String;
 
-const CASES: [(&str, Case); 29] = [
+const CASES: [(&str, Case); 30] = [
     ("sqrt-bits", |rng, _| sqrt(rng, |rng| f64::from_bits(rng.bits()))),
     ("sqrt-subnormal", |rng, _| sqrt(rng, subnormal)),
     ("sqrt-near-square", |rng, _| sqrt(rng, near_square)),
@@ -21,6 +21,7 @@ const CASES: [(&str, Case); 29] = [
     ("eliminate-zeros", |rng, _| eliminate_some(rng, sparse_matrix)),
     ("eliminate-ties", |rng, _| eliminate_some(rng, tied_matrix)),
     ("eliminate-odd", |rng, _| eliminate_some(rng, odd_matrix)),
+    ("eliminate-signs", |rng, _| eliminate_signs(rng)),
     ("eliminate-edge", |rng, _| eliminate_edge(rng)),
     ("eliminate-refused", |rng, _| eliminate_refused(rng)),
     ("nullspace-random", null_space_of_every_shape),
@@ -215,12 +216,24 @@ fn right_side(rng: &mut Rng) -> f64 {
     }
 }
 
+/// Few numbers other than zeros of both signs, on the right side too, so that the signs of the
+/// answer's zeros tell how it was worked out.
+fn eliminate_signs(rng: &mut Rng) -> String {
+    let n = rng.between(2, 6);
+    let zero = rng.pick(&[0.3, 0.5, 0.7]);
+    let number = |rng: &mut Rng| if rng.chance(zero) { rng.pick(&[0.0, -0.0]) } else { rng.pick(&[1.0, -1.0, 2.0]) };
+    let a: Vec<f64> = (0..n * n).map(|i| if i % (n + 1) == 0 { rng.pick(&[1.0, -1.0, 4.0]) } else { number(rng) }).collect();
+    let b: Vec<f64> = (0..n).map(|_| number(rng)).collect();
+    format!("eliminate {n} {} {n}\n{}{}", n * n, floats(a), floats(b))
+}
+
 /// A value, or a neighbour of it.
 fn about(rng: &mut Rng, v: f64) -> f64 {
     f64::from_bits(v.to_bits() + rng.pick(&[0, 0, 1, 2]) - rng.pick(&[0, 0, 1]))
 }
 
-/// A diagonal whose least pivot is about where elimination calls it zero.
+/// A diagonal whose least pivot is about where elimination calls it zero. The right side is small
+/// enough that the answer stays finite, or it would be none for that reason.
 fn eliminate_edge(rng: &mut Rng) -> String {
     let n = rng.between(1, 4);
     let scale = rng.pick(&[1.0, 0.3, 1e6, 1e-290, 1e-300, 1e-305]);
@@ -230,7 +243,7 @@ fn eliminate_edge(rng: &mut Rng) -> String {
     for (column, &row) in rows.iter().enumerate() {
         a[row * n + column] = rng.sign() * if column == place { least } else { scale };
     }
-    let b: Vec<f64> = (0..n).map(|_| right_side(rng)).collect();
+    let b: Vec<f64> = (0..n).map(|_| right_side(rng) * scale).collect();
     format!("eliminate {n} {} {n}\n{}{}", n * n, floats(a), floats(b))
 }
 
