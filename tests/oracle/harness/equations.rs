@@ -1,4 +1,3 @@
-
 /// Appended by tests/oracle: fills `Equations` from a build and runs its parts one by one.
 pub mod harness {
     use super::*;

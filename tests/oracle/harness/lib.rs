@@ -1,4 +1,3 @@
-
 // Appended by tests/oracle.
 pub use equations::harness::{Rig, Run, level};
 pub use solver::harness as bare;

@@ -1,4 +1,3 @@
-
 /// Appended by tests/oracle: the private calls on bare matrices, made reachable.
 pub mod harness {
     /// The answer of elimination, or none.

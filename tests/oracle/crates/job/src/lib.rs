@@ -9,7 +9,7 @@ mod reply;
 mod writer;
 
 pub use check::{check, rows};
-pub use kinds::{EQUATIONS, Kind, MEASURES, Slot, kind_named};
+pub use kinds::{EQUATIONS, Kind, MEASURES, Slot};
 pub use reader::{read, read_form};
 pub use reply::{Answer, Failure, Fitted, Group, reply};
 pub use writer::write;

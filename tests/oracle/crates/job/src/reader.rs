@@ -1,9 +1,10 @@
 //! Reads the text of a job, refusing in the order of 01: its length, the form of the four count
 //! lines, the counts' bounds, the rest of the form; then the numbers, the references, the rows.
 
+use crate::kinds::kind_named;
 use crate::{
     BAD_FORM, Build, Contact, EQUATIONS, Equation, Field, Kind, MAX_EQUATIONS, MAX_LINES, MAX_MEASURES, MAX_POINTS, MAX_TEXT, MEASURES, Point,
-    Radius, Slot, State, Status, TOO_LONG, TOO_MANY, check, kind_named,
+    Radius, Slot, State, Status, TOO_LONG, TOO_MANY, check,
 };
 
 /// The build that `text` holds, or the number it is refused with.

@@ -1,7 +1,7 @@
 //! Answers a job. The Rust groups, fits, counts freedom, unscales, levels, measures and names
 //! suspects; the order in which its parts are called is the job's of document 01.
 
-use job::{Answer, Build, Failure, Fitted, Group};
+use job::{Answer, Build, Failure, Fitted, Group, Status};
 use plain::{Rig, Run};
 
 /// An answer in which every fit ran in both copies of the solver.
@@ -11,10 +11,16 @@ pub struct Checked {
     pub nan_groups: Vec<usize>,
 }
 
+impl Checked {
+    pub fn refused(status: Status) -> Self {
+        Self { answer: Answer::Refused(status), nan_groups: Vec::new() }
+    }
+}
+
 pub fn checked(text: &[u8]) -> Checked {
     match job::read(text) {
         Ok(build) => checked_build(&build),
-        Err(status) => Checked { answer: Answer::Refused(status), nan_groups: Vec::new() },
+        Err(status) => Checked::refused(status),
     }
 }
 

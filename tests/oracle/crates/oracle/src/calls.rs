@@ -4,7 +4,7 @@ use std::fmt::Write;
 
 use job::{Build, TOO_MANY, TOO_SHORT, hex};
 
-use crate::answer;
+use crate::answer::{self, Checked};
 
 const MAX_ELIMINATION: usize = 80;
 const MAX_MATRIX_ROWS: usize = 64;
@@ -15,6 +15,8 @@ const RANK: f64 = 1e-10;
 const AREA: usize = 8_192;
 /// What the lent places of a `lent` call hold before it.
 const LENT: f64 = 7.0;
+/// The whole reply where the Rust's answer hangs on the sign that the processor gives a NaN.
+pub const NAN: &str = "nan\n";
 
 /// The reply to one call; a text outside the grammar is an error in words.
 pub fn answer(text: &[u8]) -> Result<String, String> {
@@ -104,15 +106,14 @@ fn eliminate(n: usize, mut a: Vec<f64>, mut b: Vec<f64>, call: impl Fn(&[f64], &
     format!("{first}\n{}{}", lines(a), lines(b))
 }
 
-/// Rank and basis; the matrix is only read. The one word `nan` where the Rust's answer hangs on
-/// the sign that the processor gives a NaN.
+/// Rank and basis; the matrix is only read.
 fn null_space(rows: usize, columns: usize, matrix: &[f64], mut out: Vec<f64>) -> String {
     let first = if rows > MAX_MATRIX_ROWS || columns > MAX_MATRIX_COLUMNS {
         format!("status={TOO_MANY}")
     } else if matrix.len() < rows * columns || out.len() < columns * columns {
         format!("status={TOO_SHORT}")
     } else if plain::bare::nan_in_matrix(matrix, rows, columns) {
-        return "nan\n".to_string();
+        return NAN.to_string();
     } else {
         let (rank, basis) = plain::bare::null_space(matrix, rows, columns, RANK);
         for (place, v) in out.iter_mut().zip(basis.iter().flatten()) {
@@ -176,17 +177,20 @@ fn rows(build: &Build) -> String {
 fn lent(build: &Build, out: usize, areas: [usize; 3]) -> String {
     let needed = 2 * build.points.len() + build.measures.len();
     let refusal = if out < needed || areas.iter().any(|&a| a < AREA) { Err(TOO_SHORT) } else { job::check(build) };
-    let (answer, zeroed) = match refusal {
-        Err(status) => (job::Answer::Refused(status), 0),
-        Ok(()) => (answer::checked_build(build).answer, AREA),
+    let (checked, zeroed) = match refusal {
+        Err(status) => (Checked::refused(status), 0),
+        Ok(()) => (answer::checked_build(build), AREA),
     };
+    if !checked.nan_groups.is_empty() {
+        return NAN.to_string();
+    }
     let mut places = vec![LENT; out];
-    if let job::Answer::Fitted(f) = &answer {
+    if let job::Answer::Fitted(f) = &checked.answer {
         for (place, v) in places.iter_mut().zip(f.points.iter().flatten().chain(&f.measures)) {
             *place = *v;
         }
     }
     let areas: String = areas.iter().map(|a| format!("a={zeroed},{}\n", a - zeroed)).collect();
     let places: String = places.iter().map(|v| format!("o={}\n", hex(*v))).collect();
-    job::reply(&answer) + &places + &areas
+    job::reply(&checked.answer) + &places + &areas
 }

@@ -17,7 +17,7 @@ use crate::{calls, pack};
 
 /// Texts to choose from.
 const JOBS: u64 = 20_000;
-const CALLS: u64 = 27 * 120;
+const CALLS: u64 = 30 * 120;
 /// A text beyond this is taken for its status alone.
 const LONG: usize = 8_000;
 /// A call and its reply beyond this are left out.
@@ -30,7 +30,7 @@ const CALL_EXAMPLES: usize = 4;
 type Traits = BTreeSet<String>;
 
 /// `extra` are files with jobs that no seed finds quickly; they are always taken.
-pub fn sample(folder: &Path, seed: u64, extra: &[&str]) -> Result<(), Box<dyn Error>> {
+pub fn sample(output: &mut impl Write, folder: &Path, seed: u64, extra: &[&str]) -> Result<(), Box<dyn Error>> {
     fs::create_dir_all(folder)?;
     let mut jobs = Vec::new();
     for path in extra {
@@ -38,20 +38,20 @@ pub fn sample(folder: &Path, seed: u64, extra: &[&str]) -> Result<(), Box<dyn Er
     }
     jobs.extend(chosen_jobs(seed));
     let replies = jobs.iter().map(|text| job::reply(&checked(text).answer));
-    write(&folder.join("jobs.pack"), jobs.iter().zip(replies))?;
+    write(output, &folder.join("jobs.pack"), jobs.iter().zip(replies))?;
     let calls = chosen_calls(seed)?;
-    write(&folder.join("calls.pack"), calls.iter().map(|(text, reply)| (text, reply.clone())))
+    write(output, &folder.join("calls.pack"), calls.iter().map(|(text, reply)| (text, reply.clone())))
 }
 
-fn write<'a>(path: &Path, records: impl Iterator<Item = (&'a Vec<u8>, String)>) -> Result<(), Box<dyn Error>> {
+fn write<'a>(output: &mut impl Write, path: &Path, records: impl Iterator<Item = (&'a Vec<u8>, String)>) -> Result<(), Box<dyn Error>> {
     let (mut bytes, mut count) = (Vec::new(), 0);
     for (text, reply) in records {
         pack::put_answered(&mut bytes, text, reply.as_bytes())?;
         count += 1;
     }
     fs::write(path, &bytes)?;
-    println!("{}: {count} records, {} bytes", path.display(), bytes.len());
-    Ok(std::io::stdout().flush()?)
+    writeln!(output, "{}: {count} records, {} bytes", path.display(), bytes.len())?;
+    Ok(())
 }
 
 /// The shortest jobs first; each is taken if it shows something new. A job whose freedom hangs
@@ -72,7 +72,7 @@ fn chosen_calls(seed: u64) -> Result<Vec<(Vec<u8>, String)>, String> {
     for index in 0..CALLS {
         let made = generate::call(seed, index);
         let reply = calls::answer(&made.text)?;
-        let fits = made.text.len() + reply.len() <= LONG_CALL && reply != "nan\n";
+        let fits = made.text.len() + reply.len() <= LONG_CALL && reply != calls::NAN;
         if fits && is_new(&mut shown, call_traits(&made, &reply)) {
             chosen.push((made.text, reply));
         }
@@ -80,8 +80,7 @@ fn chosen_calls(seed: u64) -> Result<Vec<(Vec<u8>, String)>, String> {
     Ok(chosen)
 }
 
-/// Whether some trait was not shown before. Traits that end in `#` are shown by several
-/// examples: the first free number is put behind.
+/// Whether some trait has fewer examples so far than it wants.
 fn is_new(shown: &mut Traits, traits: Vec<(String, usize)>) -> bool {
     let mut new = false;
     for (name, examples) in traits {

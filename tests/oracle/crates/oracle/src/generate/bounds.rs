@@ -4,11 +4,11 @@ use job::{Build, Equation, Field, Kind, MAX_MAGNITUDE, MAX_TEXT, MIN_SIZE, Point
 
 use super::figure::{Figure, Hold, plus, times};
 use super::rng::Rng;
-use super::{Made, finish, made};
+use super::{Made, finish};
 
 type Case = fn(&mut Rng) -> Vec<u8>;
 
-const CASES: [(&str, Case); 8] = [
+const CASES: [(&str, Case); 9] = [
     ("bound-points", points),
     ("bound-lines", lines),
     ("bound-equations", equations),
@@ -17,6 +17,7 @@ const CASES: [(&str, Case); 8] = [
     ("bound-number", number),
     ("bound-size", size),
     ("bound-text", text),
+    ("bound-tolerance", tolerance),
 ];
 
 /// The cases come in turn, so that a few hundred jobs already hold each of them.
@@ -25,7 +26,8 @@ pub fn job(rng: &mut Rng, index: u64) -> Made {
     Made { class, text: case(rng) }
 }
 
-/// A ring of `count` free points, the first kept, each at its distance from the one before.
+/// A ring of `count` free points, the first kept, each at its distance from the one before as
+/// far as the equations go.
 fn ring(count: usize) -> Figure {
     let mut fig = Figure::default();
     for i in 0..count {
@@ -42,8 +44,11 @@ fn ring(count: usize) -> Figure {
 }
 
 fn points(rng: &mut Rng) -> Vec<u8> {
-    let fig = ring(rng.pick(&[0, 1, 39, 40, 40, 41]));
-    made("", &finish(rng, &fig)).text
+    let mut fig = ring(rng.pick(&[0, 1, 39, 40, 40, 41]));
+    if rng.chance(0.3) {
+        fig.add(Kind::Held, &[]);
+    }
+    job::write(&finish(rng, &fig))
 }
 
 fn lines(rng: &mut Rng) -> Vec<u8> {
@@ -53,7 +58,7 @@ fn lines(rng: &mut Rng) -> Vec<u8> {
         fig.line(a, b);
     }
     fig.length(38);
-    made("", &finish(rng, &fig)).text
+    job::write(&finish(rng, &fig))
 }
 
 fn equations(rng: &mut Rng) -> Vec<u8> {
@@ -62,7 +67,7 @@ fn equations(rng: &mut Rng) -> Vec<u8> {
     while fig.equations.len() < count {
         if rng.chance(0.5) { fig.add(Kind::Held, &[]) } else { fig.redundant(rng) }
     }
-    made("", &finish(rng, &fig)).text
+    job::write(&finish(rng, &fig))
 }
 
 fn measures(rng: &mut Rng) -> Vec<u8> {
@@ -73,7 +78,7 @@ fn measures(rng: &mut Rng) -> Vec<u8> {
         1 => fig.measures.push(fig.measures[0].clone()),
         _ => {}
     }
-    made("", &finish(rng, &fig)).text
+    job::write(&finish(rng, &fig))
 }
 
 /// 63, 64 or 65 rows in at most 40 equations: midpoints and copies of points make two each.
@@ -102,7 +107,7 @@ fn rows(rng: &mut Rng) -> Vec<u8> {
     if rng.chance(0.3) {
         fig.shuffle(rng);
     }
-    made("", &finish(rng, &fig)).text
+    job::write(&finish(rng, &fig))
 }
 
 /// A value at the bound for magnitudes, just within it, just beyond it, or none at all.
@@ -151,6 +156,26 @@ fn text(rng: &mut Rng) -> Vec<u8> {
     }
     text.resize(rng.pick(&[MAX_TEXT - 1, MAX_TEXT, MAX_TEXT + 1, 2 * MAX_TEXT]), rng.pick(b"0\np"));
     text
+}
+
+/// A residual that starts at the tolerance, one step off it, or near it. The sizes are powers of
+/// two, so that scaling leaves the residual's bits alone.
+fn tolerance(rng: &mut Rng) -> Vec<u8> {
+    let edge: f64 = 1e-12;
+    let off = f64::from_bits(edge.to_bits() + rng.pick(&[0, 0, 1, 2]) - rng.pick(&[0, 0, 1]));
+    let size = rng.pick(&[1.0, 1.0, 2.0, 0.5, 256.0]);
+    let state = |rng: &mut Rng| rng.pick(&[State::Free, State::Kept, State::Kept]);
+    let (axis, side) = (rng.below(2), rng.sign());
+    let mut start = [0.0; 2];
+    start[axis] = side * off * size;
+    let (near, far) = ([0.0, 0.0], [3.0 * size, -0.0]);
+    let points = [near, start, far].map(|start| Point { start, state: state(rng) });
+    let level = Equation { kind: Kind::Level, fields: vec![Field::Point(0), Field::Point(1), Field::Axis(axis)] };
+    let fields = vec![Field::Point(0), Field::Point(1), Field::Axis(axis), Field::Value(0.0), Field::Side(side)];
+    let along = Equation { kind: Kind::AxisDistance, fields };
+    let equations = rng.pick(&[&[0][..], &[1], &[0, 1]]).iter().map(|&k: &usize| [&level, &along][k].clone()).collect();
+    let build = Build { centre: [0.0; 2], size, points: points.to_vec(), lines: Vec::new(), equations, measures: Vec::new() };
+    job::write(&build)
 }
 
 /// A small sound build.

@@ -5,7 +5,7 @@ use super::{Made, several, soups, true_soup};
 
 type Case = fn(&mut Rng, u64) -> String;
 
-const CASES: [(&str, Case); 27] = [
+const CASES: [(&str, Case); 30] = [
     ("sqrt-bits", |rng, _| sqrt(rng, |rng| f64::from_bits(rng.bits()))),
     ("sqrt-subnormal", |rng, _| sqrt(rng, subnormal)),
     ("sqrt-near-square", |rng, _| sqrt(rng, near_square)),
@@ -21,6 +21,8 @@ const CASES: [(&str, Case); 27] = [
     ("eliminate-zeros", |rng, _| eliminate_some(rng, sparse_matrix)),
     ("eliminate-ties", |rng, _| eliminate_some(rng, tied_matrix)),
     ("eliminate-odd", |rng, _| eliminate_some(rng, odd_matrix)),
+    ("eliminate-signs", |rng, _| eliminate_signs(rng)),
+    ("eliminate-edge", |rng, _| eliminate_edge(rng)),
     ("eliminate-refused", |rng, _| eliminate_refused(rng)),
     ("nullspace-random", null_space_of_every_shape),
     ("nullspace-dependent", |rng, _| null_space_some(rng, dependent_matrix)),
@@ -29,6 +31,7 @@ const CASES: [(&str, Case); 27] = [
     ("nullspace-zeros", |rng, _| null_space_some(rng, sparse_matrix)),
     ("nullspace-ties", |rng, _| null_space_some(rng, tied_matrix)),
     ("nullspace-odd", |rng, _| null_space_some(rng, odd_matrix)),
+    ("nullspace-edge", |rng, _| null_space_edge(rng)),
     ("nullspace-refused", |rng, _| null_space_refused(rng)),
     ("level", |rng, _| level(rng, |rng| rng.range(-9.0, 9.0))),
     ("level-odd", |rng, _| level(rng, |rng| if rng.chance(0.5) { odd(rng) } else { f64::from_bits(rng.bits()) })),
@@ -211,6 +214,49 @@ fn right_side(rng: &mut Rng) -> f64 {
         2 => wide(rng),
         _ => rng.range(-1.0, 1.0),
     }
+}
+
+/// Few numbers other than zeros of both signs, on the right side too, so that the signs of the
+/// answer's zeros tell how it was worked out.
+fn eliminate_signs(rng: &mut Rng) -> String {
+    let n = rng.between(2, 6);
+    let zero = rng.pick(&[0.3, 0.5, 0.7]);
+    let number = |rng: &mut Rng| if rng.chance(zero) { rng.pick(&[0.0, -0.0]) } else { rng.pick(&[1.0, -1.0, 2.0]) };
+    let a: Vec<f64> = (0..n * n).map(|i| if i % (n + 1) == 0 { rng.pick(&[1.0, -1.0, 4.0]) } else { number(rng) }).collect();
+    let b: Vec<f64> = (0..n).map(|_| number(rng)).collect();
+    format!("eliminate {n} {} {n}\n{}{}", n * n, floats(a), floats(b))
+}
+
+/// A value, or a neighbour of it.
+fn about(rng: &mut Rng, v: f64) -> f64 {
+    f64::from_bits(v.to_bits() + rng.pick(&[0, 0, 1, 2]) - rng.pick(&[0, 0, 1]))
+}
+
+/// A diagonal whose least pivot is about where elimination calls it zero. The right side is small
+/// enough that the answer stays finite, or it would be none for that reason.
+fn eliminate_edge(rng: &mut Rng) -> String {
+    let n = rng.between(1, 4);
+    let scale = rng.pick(&[1.0, 0.3, 1e6, 1e-290, 1e-300, 1e-305]);
+    let least = about(rng, f64::max(scale, 1e-300) * 1e-15);
+    let (rows, place) = (rng.order(n), rng.below(n));
+    let mut a = vec![0.0; n * n];
+    for (column, &row) in rows.iter().enumerate() {
+        a[row * n + column] = rng.sign() * if column == place { least } else { scale };
+    }
+    let b: Vec<f64> = (0..n).map(|_| right_side(rng) * scale).collect();
+    format!("eliminate {n} {} {n}\n{}{}", n * n, floats(a), floats(b))
+}
+
+/// Two rows that part by about as little as null space still tells apart.
+fn null_space_edge(rng: &mut Rng) -> String {
+    let columns = rng.between(2, 4);
+    let (first, second) = (rng.below(columns), rng.between(1, columns - 1));
+    let mut m = vec![0.0; 2 * columns];
+    m[first] = 1.0;
+    m[columns + first] = 1.0;
+    m[columns + (first + second) % columns] = rng.sign() * about(rng, 1e-10);
+    let out = vec![0.0; columns * columns];
+    format!("nullspace 2 {columns} {} {}\n{}{}", m.len(), out.len(), floats(m), floats(out))
 }
 
 /// A shape beyond its bound, a slice too short, or both.

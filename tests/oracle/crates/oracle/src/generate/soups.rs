@@ -3,7 +3,7 @@
 
 use std::f64::consts::PI;
 
-use job::{Build, Contact, EQUATIONS, Equation, Field, Kind, MAX_ROWS, MEASURES, Point, Radius, Slot, State};
+use job::{Build, Contact, EQUATIONS, Equation, Field, Kind, MEASURES, Point, Radius, Slot, State};
 
 use super::figure::{At, Figure, Hold, length, minus, plus, polar, times};
 use super::rng::Rng;
@@ -24,7 +24,7 @@ pub fn true_soup(rng: &mut Rng, equations: usize) -> Figure {
 
 /// A point anywhere, or one the figure has already.
 fn some_point(rng: &mut Rng, fig: &mut Figure) -> usize {
-    if !fig.points.is_empty() && rng.chance(0.5) { rng.below(fig.points.len()) } else { fig.point([rng.range(-500.0, 500.0), rng.range(-500.0, 500.0)]) }
+    if !fig.points.is_empty() && rng.chance(0.5) { rng.below(fig.points.len()) } else { fig.point(anywhere(rng)) }
 }
 
 /// A line anywhere, or one the figure has already.
@@ -207,20 +207,33 @@ fn odd(rng: &mut Rng) -> f64 {
 pub fn wild_soup(rng: &mut Rng) -> Build {
     let points: Vec<Point> = (0..rng.between(1, 12)).map(|_| wild_point(rng)).collect();
     let point = |rng: &mut Rng| rng.below(points.len());
-    let lines: Vec<[usize; 2]> = (0..rng.below(7)).map(|_| [point(rng), point(rng)]).collect();
-    let usable = |kind: &Kind| !lines.is_empty() || !kind.slots().contains(&Slot::Line);
-    let (kinds, measures): (Vec<Kind>, Vec<Kind>) =
-        (EQUATIONS.into_iter().filter(usable).collect(), MEASURES.into_iter().filter(usable).collect());
-    let equation = |rng: &mut Rng, kinds: &[Kind]| wild_equation(rng, kinds, points.len(), lines.len());
-    let count = rng.between(1, 9);
-    let mut equations: Vec<Equation> = (0..count).map(|_| equation(rng, &kinds)).collect();
-    while equations.iter().map(|e| e.kind.rows()).sum::<usize>() > MAX_ROWS {
-        equations.pop();
-    }
-    let measures = (0..rng.below(5)).map(|_| without_value(equation(rng, &measures))).collect();
+    let lines = (0..rng.below(7)).map(|_| [point(rng), point(rng)]).collect();
     let size = rng.pick(&[1.0, 1.0, 1.0, 2.0, 0.5, 10.0, 1.0 / 1024.0, 1e6]);
     let centre = rng.pick(&[[0.0, 0.0], [-0.0, -0.0], [0.5, -1.5]]);
-    Build { centre, size, points, lines, equations, measures }
+    let equations = rng.between(1, 9);
+    soup_on(rng, Build { centre, size, points, lines, equations: Vec::new(), measures: Vec::new() }, equations)
+}
+
+/// A few equations on a square grid: many gradients are exactly zero there, where what is asked
+/// for lies at right angles to what is drawn.
+pub fn grid_soup(rng: &mut Rng) -> Build {
+    let cell = |rng: &mut Rng| rng.below(3) as f64;
+    let state = |rng: &mut Rng| rng.pick(&[State::Free, State::Free, State::Free, State::Kept]);
+    let points: Vec<Point> = (0..rng.between(3, 6)).map(|_| Point { start: [cell(rng), cell(rng)], state: state(rng) }).collect();
+    let lines = (1..points.len()).map(|p| [p - 1, p]).collect();
+    let equations = rng.between(1, 3);
+    soup_on(rng, Build { centre: [0.0; 2], size: 1.0, points, lines, equations: Vec::new(), measures: Vec::new() }, equations)
+}
+
+/// The build with so many equations, and up to four measures, of any kind it has the parts for.
+fn soup_on(rng: &mut Rng, mut build: Build, equations: usize) -> Build {
+    let (points, lines) = (build.points.len(), build.lines.len());
+    let usable = |kind: &Kind| lines > 0 || !kind.slots().contains(&Slot::Line);
+    let kinds: Vec<Kind> = EQUATIONS.into_iter().filter(usable).collect();
+    let measures: Vec<Kind> = MEASURES.into_iter().filter(usable).collect();
+    build.equations = (0..equations).map(|_| wild_equation(rng, &kinds, points, lines)).collect();
+    build.measures = (0..rng.below(5)).map(|_| without_value(wild_equation(rng, &measures, points, lines))).collect();
+    build
 }
 
 fn wild_point(rng: &mut Rng) -> Point {
@@ -249,7 +262,7 @@ pub fn wild_equation(rng: &mut Rng, kinds: &[Kind], points: usize, lines: usize)
     Equation { kind, fields: fields.collect() }
 }
 
-pub fn without_value(mut e: Equation) -> Equation {
+fn without_value(mut e: Equation) -> Equation {
     for field in &mut e.fields {
         if let Field::Value(v) = field {
             *v = 0.0;
