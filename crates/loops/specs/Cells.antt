@@ -1,6 +1,7 @@
 -- The places of a table that lies in a slice row after row: row r, column c of a table of n columns is at r * n + c.
 --     cell-mul, cell-add   that place's number fits a usize, where the table's rows m and columns n are within the slice
 --     cell-in              it is within the slice
+--     cell-row             the whole row is within the slice
 --     cells                the set for `search`
 -- Assumes nothing.
 use Prim.Native.Nat.{ℕ, _+_, _*_, _≤_, _<_, _^_}
@@ -24,4 +25,7 @@ cell-mul m n r k h t f = record { fits = omega (arith, mul-le-mul-right n h) }
 pub cell-add : (m n r c k : ℕ) → r < m → c < n → m * n ≤ k → k < 2 ^ 64 → Fits w64 (r * n + c)
 cell-add m n r c k h q t f = let p : r * n + c < k = cell m n r c k h q t in record { fits = omega arith }
 
-pub ruleset cells = (cell-in, cell-mul, cell-add)
+pub cell-row : (m n r k : ℕ) → r < m → m * n ≤ k → r * n + n ≤ k
+cell-row m n r k h t = omega (arith, mul-le-mul-right n h)
+
+pub ruleset cells = (cell-in, cell-mul, cell-add, cell-row)

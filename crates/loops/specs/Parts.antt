@@ -1,5 +1,7 @@
 -- A part of a slice that is lent and comes back.
 --     front        the part `&mut a[..k]` has k places
+--     still-fits   when it has come back, it can be lent again
+--     refilled     what a is when that part has come back, and then has come back filled with v
 --     tail-part    the part `&mut a[st..]` is a from st on
 --     past-tail    what a is when that part has come back as y
 --     get-past, set-past    a read and a write past the front p of a list
@@ -9,12 +11,21 @@ use mathlib.Core.List.{List, [], _∷_, _++_, append-nil}
 use mathlib.Core.Path.{_≡_, refl, sym, ap, _∙_}
 use native.Mathlib.Nat.{suc-add, zero-add}
 use native.Mathlib.Omega.{arith}
-use lib.ListN.{length, getD, take, drop, set, length-drop, drop-of-length-le}
-use lib.Seq.{length-take-le, take-all, getD-append-add}
+use lib.ListN.{length, getD, take, drop, set, replicate, length-drop, drop-of-length-le}
+use lib.Seq.{length-take-le, length-front, take-all, take-at, drop-at, getD-append-add}
 
 module _ {A : Type 0} where
   pub front : (k : ℕ) (a : List A) → k ≤ length a → k ≡ length (take k a)
   front k a h = sym (length-take-le k a h)
+
+  pub still-fits : (k : ℕ) (a y : List A) → k ≤ length a → length y ≡ length (take k a) → k ≤ length (y ++ drop k a)
+  still-fits k a y h e = rw (length-front a y k e) h
+
+  pub refilled : (v : A) (k : ℕ) (a y z : List A) → k ≤ length a → length y ≡ length (take k a) → z ≡ replicate (length (take k (y ++ drop k a))) v
+      → z ++ drop k (y ++ drop k a) ≡ replicate k v ++ drop k a
+  refilled v k a y z h e q =
+      let n : length y ≡ k = e ∙ length-take-le k a h in
+      rw (q, take-at y (drop k a) k n, drop-at y (drop k a) k n, n)
 
   pub tail-part : (a : List A) (st : ℕ) → take (length a - st) (drop st a) ≡ drop st a
   tail-part a st = take-all (length a - st) (drop st a) (simp length-drop (omega arith))

@@ -2,12 +2,13 @@
 --     fill     every place gets the value v
 --     into     the places of t get g of what l holds there, in turn
 --     map      the same in place: every place of l gets g of what it held
--- Each has a law for a turn (-next) and for the end (-done). Assumes nothing.
+-- Each has a law for a turn (-next) and for the end (-done, -whole). Assumes nothing.
 use Prim.Native.Nat.{ℕ, zero, suc, _+_, _≤_, _<_}
 use mathlib.Core.List.{List, [], _∷_, _++_, map, append-nil}
 use mathlib.Core.Path.{_≡_, refl, sym, ap, _∙_}
 use native.Mathlib.Nat.{not-suc-le-zero, le-of-suc-le-suc, le-antisymm}
 use native.Mathlib.Numerals.{add-one}
+use native.Mathlib.Omega.{arith}
 use lib.ListN.{length, getD, take, drop, set, replicate, drop-of-length-le}
 use lib.Seq.{take-all}
 
@@ -37,6 +38,10 @@ module _ {A B : Type 0} (g : A → B) where
 
   pub into-done : (l : List A) (t s : List B) (i : ℕ) → length l ≤ i → i ≤ length l → s ≡ map g (take i l) ++ drop i t → s ≡ map g l ++ drop (length l) t
   into-done l t s i h k q = q ∙ rw (take-all i l h, le-antisymm k h)
+
+  -- where t is as long as l
+  pub into-whole : (l : List A) (t s : List B) (i : ℕ) → length t ≡ length l → length l ≤ i → i ≤ length l → s ≡ map g (take i l) ++ drop i t → s ≡ map g l
+  into-whole l t s i e h k q = let all : length t ≤ length l = omega arith in into-done l t s i h k q ∙ rw (drop-of-length-le t all, append-nil)
 
 module _ {A : Type 0} (g : A → A) where
   -- the place that is next still holds what it held

@@ -1,3 +1,5 @@
 pub mod Sums
 pub mod Steps
+pub mod Candidate
 pub mod Promise
+pub mod Examples

@@ -66,8 +66,17 @@ orZeros n stop = replicate n zero⁺
 abbrev pub solved : ℕ → List Float → List Float → Try (List Float)
 solved n a b = solutionOf n (take (n * n) a) (take n b)
 
+abbrev pub answerOf : ℕ → List Float → List Float → Elimination
+answerOf n a b = checked n a b TooMany TooShort (found (solved n a b))
+
+abbrev pub matrixAfter : ℕ → List Float → List Float → List Float
+matrixAfter n a b = checked n a b a a (replicate (n * n) zero⁺ ++ drop (n * n) a)
+
+abbrev pub rightAfter : ℕ → List Float → List Float → List Float
+rightAfter n a b = checked n a b b b (orZeros n (solved n a b) ++ drop n b)
+
 pub record Solves (n : ℕ) (a b a′ b′ : List Float) (r : Elimination) : Type 0 where
-  pub answer : r ≡ checked n a b TooMany TooShort (found (solved n a b))
+  pub answer : r ≡ answerOf n a b
   pub meaning : meaningOf n b′ r ≡ checked n a b (refused 3) (refused 9) (meant (solved n a b))
-  pub matrix : a′ ≡ checked n a b a a (replicate (n * n) zero⁺ ++ drop (n * n) a)
-  pub right : b′ ≡ checked n a b b b (orZeros n (solved n a b) ++ drop n b)
+  pub matrix : a′ ≡ matrixAfter n a b
+  pub right : b′ ≡ rightAfter n a b

@@ -1,8 +1,11 @@
 // The loop over the columns: the pivot, the exchange of two rows, and the rows below it.
 ghost use mathlib.Core.Path.{_≡_};
 ghost use Prim.Native.Nat.{_+_, _*_, _≤_, _<_};
+ghost use mathlib.Core.Bool.{false};
+ghost use lib.Ieee.{isNan};
 ghost use lib.ListN.{length};
 ghost use Rattle.loops.specs.Turns.{tried, upTo};
+ghost use Rattle.solver.specs.Candidate.{Sized};
 ghost use Rattle.solver.specs.Steps.{sys, largerOf, scaleOf, largerRow, pivotOf, swapAt, swapColumn, swapped, columnOf, eliminatedOf};
 use crate::below;
 
@@ -18,9 +21,11 @@ fn scale(a: &[f64]) -> f64
 }
 
 fn larger(m: f64, v: f64) -> f64
-    ensures { λ r. ⌜ r ≡ largerOf m v ⌝ }
+    requires { ⌜ isNan m ≡ false ⌝ }
+    ensures { λ r. ⌜ (r ≡ largerOf m v) × (isNan r ≡ false) ⌝ }
 {
-    floats::max(m, floats::abs(v))
+    let a = floats::abs(v);
+    if m < a { a } else { m }
 }
 
 // The row from `col` on with the largest magnitude in column `col`, the lowest one on ties.
@@ -28,19 +33,29 @@ fn pivot_row(a: &[f64], n: usize, col: usize) -> usize
     requires { ⌜ (col < n) × (n * n ≤ length (now a)) ⌝ }
     ensures { λ r. ⌜ (r ≡ pivotOf n col (now (a .entry))) × (r < n) ⌝ }
 {
-    let mut best = col;
+    let mut best = Candidate {
+        row: col,
+        size: floats::magnitude(a[col * n + col]),
+    };
     for row in col + 1..n {
         best = larger_row(a, n, col, row, best);
     }
-    best
+    best.row
 }
 
-fn larger_row(a: &[f64], n: usize, col: usize, q: usize, p: usize) -> usize
-    requires { ⌜ (p < n) × ((q < n) × ((col < n) × (n * n ≤ length (now a)))) ⌝ }
-    ensures { λ r. ⌜ (r ≡ largerRow n col (now (a .entry)) q p) × (r < n) ⌝ }
+// A row and its magnitude in the pivot column.
+struct Candidate {
+    row: usize,
+    size: u64,
+}
+
+fn larger_row(a: &[f64], n: usize, col: usize, q: usize, p: Candidate) -> Candidate
+    requires { ⌜ ((q < n) × ((col < n) × (n * n ≤ length (now a)))) × Sized n col (now a) p ⌝ }
+    ensures { λ r. ⌜ (r .row ≡ largerRow n col (now (a .entry)) q (p .row)) × Sized n col (now (a .entry)) r ⌝ }
 {
-    if floats::magnitude(a[p * n + col]) < floats::magnitude(a[q * n + col]) {
-        q
+    let s = floats::magnitude(a[q * n + col]);
+    if p.size < s {
+        Candidate { row: q, size: s }
     } else {
         p
     }

@@ -1,5 +1,5 @@
 use native.Mathlib.Nat.{mul-le-mul-right}
-use lib.Seq.{length-take-le, take-at, drop-at, length-front}
+use lib.Seq.{length-take-le, take-at}
 use mir.Syntax.{w64}
 use mir.Val.{Fits}
 use Prim.Native.Nat.{ℕ, _*_, _≤_}
@@ -13,22 +13,12 @@ use lib.Ieee.{Float}
 use borrow.Author.Tests.{not-true, not-false, leb-true}
 use Rattle.floats.specs.Ops.{zero⁺}
 use Rattle.loops.specs.Turns.{tried}
-use Rattle.loops.specs.Parts.{front}
+use Rattle.loops.specs.Parts.{front, still-fits, refilled}
 use Rattle.solver.specs.declared.Elimination.the-variants.{Solved, None}
 use Rattle.solver.specs.Promise.{Solves, values, too-many, short-matrix, short-right, carried-out, found, meant, orZeros, solved}
 use borrow.Author.Needs.{needs}
 use Rattle.solver.proofs.solve_dense.Statement.{statement}
 use Rattle.solver.proofs.solve_dense.Tie as tie
-
--- the k places at the head of l, lent and come back as y, and then cleared
-cleared : (k : ℕ) (l y z : List Float) → k ≤ length l → length y ≡ length (take k l) → z ≡ replicate (length (take k (y ++ drop k l))) zero⁺
-    → z ++ drop k (y ++ drop k l) ≡ replicate k zero⁺ ++ drop k l
-cleared k l y z h e q =
-    let n : length y ≡ k = e ∙ length-take-le k l h in
-    rw (q, take-at y (drop k l) k n, drop-at y (drop k l) k n, n)
-
-back-again : (k : ℕ) (l y : List Float) → k ≤ length l → length y ≡ length (take k l) → k ≤ length (y ++ drop k l)
-back-again k l y h e = rw (length-front l y k e) h
 
 square-fits : (n : ℕ) → n ≤ 80 → Fits w64 (n * n)
 square-fits n h = record { fits = omega (arith, mul-le-mul-right n h) }
@@ -37,7 +27,7 @@ module _ (n : ℕ) (a b : List Float) (h : n ≤ 80) (s : leb (n * n) (length a)
     (same : length a₁ ≡ length (take (n * n) a)) (kept : length y ≡ length (take n b))
     (zeros : z ≡ replicate (length (take (n * n) (a₁ ++ drop (n * n) a))) zero⁺) where
   matrix-cleared : z ++ drop (n * n) (a₁ ++ drop (n * n) a) ≡ replicate (n * n) zero⁺ ++ drop (n * n) a
-  matrix-cleared = cleared (n * n) a a₁ z (leb-true (n * n) (length a) s) same zeros
+  matrix-cleared = refilled zero⁺ (n * n) a a₁ z (leb-true (n * n) (length a) s) same zeros
 
   with-answer : (ok : Bool) → ok ≡ true → tried ok y ≡ solved n a b → Solves n a b (z ++ drop (n * n) (a₁ ++ drop (n * n) a)) (y ++ drop n b) Solved
   with-answer ok o q = let e : tried true y ≡ solved n a b = rw o at q in record {
@@ -53,7 +43,7 @@ module _ (n : ℕ) (a b : List Float) (h : n ≤ 80) (s : leb (n * n) (length a)
     answer = carried-out n a b _ _ _ _ h s t (ap found e);
     meaning = carried-out n a b _ _ _ _ h s t (ap meant e);
     matrix = carried-out n a b _ _ _ _ h s t matrix-cleared;
-    right = carried-out n a b _ _ _ _ h s t (cleared n b y x t kept q ∙ ap (λ x. orZeros n x ++ drop n b) e);
+    right = carried-out n a b _ _ _ _ h s t (refilled zero⁺ n b y x t kept q ∙ ap (λ x. orZeros n x ++ drop n b) e);
   }
 
 returns : tie.Need-returns
@@ -81,16 +71,16 @@ solve-square-requires : tie.Need-solve-square-requires
 solve-square-requires c κs = (sym (front _ _ (leb-true _ _ (sym (c .before .before .before .before .holds .ensures) ∙ not-false _ (c .before .before .before .if2 .left)))), sym (front _ _ (c .before .before .if3 .left)))
 
 slice-relend-prefix-clear : tie.Need-slice-relend-prefix-clear
-slice-relend-prefix-clear c = back-again _ _ (c .before .before .before .before .solve-square .last .0) (leb-true _ _ (sym (c .before .before .before .before .before .before .before .before .before .holds .ensures) ∙ not-false _ (c .before .before .before .before .before .before .before .before .if2 .left))) (c .before .before .before .before .solve-square .kept .0)
+slice-relend-prefix-clear c = still-fits _ _ (c .before .before .before .before .solve-square .last .0) (leb-true _ _ (sym (c .before .before .before .before .before .before .before .before .before .holds .ensures) ∙ not-false _ (c .before .before .before .before .before .before .before .before .if2 .left))) (c .before .before .before .before .solve-square .kept .0)
 
 slice-aggregate-clear : tie.Need-slice-aggregate-clear
-slice-aggregate-clear c = front _ _ (back-again _ _ (c .before .before .before .before .before .solve-square .last .0) (leb-true _ _ (sym (c .before .before .before .before .before .before .before .before .before .before .holds .ensures) ∙ not-false _ (c .before .before .before .before .before .before .before .before .before .if2 .left))) (c .before .before .before .before .before .solve-square .kept .0))
+slice-aggregate-clear c = front _ _ (still-fits _ _ (c .before .before .before .before .before .solve-square .last .0) (leb-true _ _ (sym (c .before .before .before .before .before .before .before .before .before .before .holds .ensures) ∙ not-false _ (c .before .before .before .before .before .before .before .before .before .if2 .left))) (c .before .before .before .before .before .solve-square .kept .0))
 
 returns-4 : tie.Need-returns-4
 returns-4 c = with-answer _ _ _ (c .before .before .before .before .before .before .before .before .before .before .before .before .before .before .before .if1 .left) (sym (c .before .before .before .before .before .before .before .before .before .before .before .before .before .before .holds .ensures) ∙ not-false _ (c .before .before .before .before .before .before .before .before .before .before .before .before .before .if2 .left)) (c .before .before .before .before .before .before .before .before .before .before .before .before .if3 .left) (c .before .before .before .before .before .before .before .before .before .solve-square .last .0) (c .before .before .before .before .before .before .before .before .before .solve-square .last .1 .0) _ (c .before .before .before .before .before .before .before .before .before .solve-square .kept .0) (c .before .before .before .before .before .before .before .before .before .solve-square .kept .1 .0) (c .before .before .before .clear .ensures) (c .before .before .before .before .before .before .before .before .before .solve-square .result) (c .if4 .taken) (c .before .before .before .before .before .before .before .before .before .solve-square .ensures)
 
 slice-aggregate-clear-2 : tie.Need-slice-aggregate-clear-2
-slice-aggregate-clear-2 c = front _ _ (back-again _ _ (c .before .before .before .before .before .before .before .before .before .before .solve-square .last .1 .0) (c .before .before .before .before .before .before .before .before .before .before .before .before .before .if3 .left) (c .before .before .before .before .before .before .before .before .before .before .solve-square .kept .1 .0))
+slice-aggregate-clear-2 c = front _ _ (still-fits _ _ (c .before .before .before .before .before .before .before .before .before .before .solve-square .last .1 .0) (c .before .before .before .before .before .before .before .before .before .before .before .before .before .if3 .left) (c .before .before .before .before .before .before .before .before .before .before .solve-square .kept .1 .0))
 
 returns-5 : tie.Need-returns-5
 returns-5 c = with-none _ _ _ (c .before .before .before .before .before .before .before .before .before .before .before .before .before .before .before .before .before .before .before .if1 .left) (sym (c .before .before .before .before .before .before .before .before .before .before .before .before .before .before .before .before .before .before .holds .ensures) ∙ not-false _ (c .before .before .before .before .before .before .before .before .before .before .before .before .before .before .before .before .before .if2 .left)) (c .before .before .before .before .before .before .before .before .before .before .before .before .before .before .before .before .if3 .left) (c .before .before .before .before .before .before .before .before .before .before .before .before .before .solve-square .last .0) (c .before .before .before .before .before .before .before .before .before .before .before .before .before .solve-square .last .1 .0) _ (c .before .before .before .before .before .before .before .before .before .before .before .before .before .solve-square .kept .0) (c .before .before .before .before .before .before .before .before .before .before .before .before .before .solve-square .kept .1 .0) (c .before .before .before .before .before .before .before .clear .ensures) (c .before .before .before .before .before .before .before .before .before .before .before .before .before .solve-square .result) _ (c .before .before .before .before .if4 .left) (c .before .before .before .before .before .before .before .before .before .before .before .before .before .solve-square .ensures) (c .before .before .clear2 .ensures)

@@ -1,7 +1,7 @@
-use Rattle.loops.specs.Picks.{pick-yes, pick-no}
 use mathlib.Core.Path.{refl}
 use borrow.Author.Tests.{lt-ltb, le-ltb}
 use Rattle.loops.specs.Cells.{cells}
+use Rattle.loops.specs.Picks.{pick-yes, pick-no}
 use Rattle.solver.specs.Steps.{largerRow}
 use borrow.Author.Needs.{needs}
 use Rattle.solver.proofs.pivot.larger_row.Statement.{statement}
@@ -19,25 +19,14 @@ mul-magnitude-2 c = search (cells, needs)
 shared-slice-read-magnitude : tie.Need-shared-slice-read-magnitude
 shared-slice-read-magnitude c = search (cells, needs)
 
-mul-magnitude-3 : tie.Need-mul-magnitude-3
-mul-magnitude-3 c = search (cells, needs)
-
-add-magnitude-2 : tie.Need-add-magnitude-2
-add-magnitude-2 c = search (cells, needs)
-
-mul-magnitude-4 : tie.Need-mul-magnitude-4
-mul-magnitude-4 c = search (cells, needs)
-
-shared-slice-read-magnitude-2 : tie.Need-shared-slice-read-magnitude-2
-shared-slice-read-magnitude-2 c = search (cells, needs)
-
 returns : tie.Need-returns
 unfolding largerRow
-returns c = (pick-yes _ _ _ _ (lt-ltb _ _ (rw (c .before .before .before .magnitude .ensures, c .before .magnitude2 .ensures) at (c .if1 .taken))) refl, search needs)
+returns c = let s = c .before .before .magnitude .ensures in
+    (pick-yes _ _ _ _ (lt-ltb _ _ (rw (c .before .before .before .before .before .pre .1 .size, s) at (c .if1 .taken))) refl, record { within = c .before .before .before .before .before .pre .0 .0; size = s })
 
 returns-2 : tie.Need-returns-2
 unfolding largerRow
-returns-2 c = (pick-no _ _ _ _ (le-ltb _ _ (rw (c .before .before .before .magnitude .ensures, c .before .magnitude2 .ensures) at (c .if1 .left))) refl, search needs)
+returns-2 c = (pick-no _ _ _ _ (le-ltb _ _ (rw (c .before .before .before .before .before .pre .1 .size, c .before .before .magnitude .ensures) at (c .if1 .left))) refl, c .before .before .before .before .before .pre .1)
 
 pub larger-row-spec : {M : Type 1} → statement M
 larger-row-spec =
@@ -47,11 +36,6 @@ larger-row-spec =
     add-magnitude
     mul-magnitude-2
     shared-slice-read-magnitude
-    (λ c κs. search needs)
-    mul-magnitude-3
-    add-magnitude-2
-    mul-magnitude-4
-    shared-slice-read-magnitude-2
     (λ c κs. search needs)
     returns
     returns-2)

@@ -1,0 +1,43 @@
+use Prim.Native.Nat.{_≤_, _-_}
+use mathlib.Core.Path.{_≡_, refl}
+use lib.ListN.{length}
+use borrow.Author.Needs.{needs}
+use Rattle.loops.specs.Turns.{upTo, upTo-next, upTo-done}
+use Rattle.nullspace.specs.Steps.{swapHead}
+use Rattle.nullspace.proofs.qr.swap_head.Statement.{statement}
+use Rattle.nullspace.proofs.qr.swap_head.Tie as tie
+
+abbrev Inv-loop : tie.InvT-loop
+Inv-loop t₀ n p c₀ t c = (c ≤ n) × (length t ≡ length t₀) × (upTo n c (swapHead n p) t ≡ upTo n 0 (swapHead n p) t₀)
+
+abbrev μ-loop : tie.MeasureT-loop
+μ-loop t₀ n p c₀ t c = n - c
+
+loop-holds : tie.Need-loop-holds Inv-loop μ-loop
+loop-holds c = (search needs, refl, refl)
+
+swap-requires : tie.Need-swap-requires Inv-loop μ-loop
+swap-requires c κs = (search needs, search needs)
+
+loop-again : tie.Need-loop-again Inv-loop μ-loop
+unfolding swapHead
+loop-again c = (search needs, search needs, search (upTo-next, needs))
+
+returns : tie.Need-returns Inv-loop μ-loop
+returns c = search (upTo-done, needs)
+
+pub swap-head-spec : {M : Type 1} → statement M
+swap-head-spec =
+    tie.close
+    (tie.spec
+    Inv-loop
+    μ-loop
+    loop-holds
+    (λ c. search needs)
+    (λ c. search needs)
+    swap-requires
+    (λ c. search needs)
+    (λ c. search needs)
+    loop-again
+    (λ c. search needs)
+    returns)

@@ -1,0 +1,4 @@
+pub mod Rows
+pub mod Reflect
+pub mod Steps
+pub mod Promise

@@ -1,0 +1,103 @@
+-- What a call of `null_space` answers and leaves in each lent place, for every input.
+use Prim.Native.Nat.{ℕ, _-_, _*_, _≤_, _<_, min}
+use mathlib.Core.Bool.{true, cond}
+use mathlib.Core.List.{List, _++_}
+use mathlib.Core.Path.{_≡_}
+use borrow.Author.Tests.{lt-ltb, le-ltb}
+use lib.Dec.{ltb}
+use lib.ListN.{length, take, drop, replicate}
+use lib.Ieee.{Float}
+use Rattle.floats.specs.Ops.{zero⁺}
+use Rattle.loops.specs.Picks.{pick-yes, pick-no}
+use Rattle.nullspace.specs.declared.NullSpace.{NullSpace}
+use Rattle.nullspace.specs.declared.NullSpace.the-variants.{Rank, TooMany, TooShort}
+use Rattle.nullspace.specs.declared.qr.Step.{Step}
+use Rattle.nullspace.specs.declared.qr.Column.{Column}
+use Rattle.nullspace.specs.Rows.{unitRows}
+use Rattle.nullspace.specs.Steps.{Qr, normAt, turns-on, firstOf, turned, decomposed, rankOf, reflectorsOf, basisOf}
+
+-- a column with its remaining norm, one of m
+pub record Measured (n m k : ℕ) (t : List Float) (p : Column) : Type 0 where
+  pub within : p .row < m
+  pub norm : p .norm ≡ normAt n k t (p .row)
+
+-- a turn over k on the list t, which leaves t′
+pub record Turned (n m k : ℕ) (first : Float) (t t′ : List Float) (r : Step) : Type 0 where
+  pub on : r .on ≡ turns-on n m k first t
+  pub next : r .first ≡ firstOf n m k first t
+  pub left : r .on ≡ true → t′ ≡ turned n m k t
+
+-- the rank, of which no more than rows or columns come out, and the reflectors in the first rows of w′
+pub record Decomposes (rows n : ℕ) (w w′ : List Float) (r : ℕ) : Type 0 where
+  pub bounded : r ≤ min n rows
+  pub rank : r ≡ rankOf (decomposed rows n w)
+  pub reflectors : take (r * n) w′ ≡ reflectorsOf n (decomposed rows n w)
+
+-- What an answer says in document 01's terms: its table's number for a refusal, or the rank.
+pub data Meaning : Type 0 where
+  refused : ℕ → Meaning
+  rank : ℕ → Meaning
+
+abbrev pub meaningOf : NullSpace → Meaning
+meaningOf (Rank r) = rank r
+meaningOf TooMany = refused 3
+meaningOf TooShort = refused 9
+
+-- document 01's table for a call on a bare matrix: 3, then 9, and otherwise the call is carried out
+module _ {A : Type 0} (rows n : ℕ) (m w out : List Float) where
+  unfoldable pub checked : A → A → A → A
+  checked three nine done =
+      cond (ltb 64 rows) three
+      (cond (ltb 80 n) three
+      (cond (ltb (length m) (rows * n)) nine (cond (ltb (length w) (rows * n)) nine (cond (ltb (length out) (n * n)) nine done))))
+
+  module _ (v three nine done : A) where
+    pub too-many-rows : 64 < rows → v ≡ three → v ≡ checked three nine done
+    unfolding checked
+    too-many-rows h e = pick-yes _ _ _ _ (lt-ltb 64 rows h) e
+
+    module _ (r : rows ≤ 64) where
+      pub too-many-columns : 80 < n → v ≡ three → v ≡ checked three nine done
+      unfolding checked
+      too-many-columns h e = pick-no _ _ _ _ (le-ltb 64 rows r) (pick-yes _ _ _ _ (lt-ltb 80 n h) e)
+
+      module _ (c : n ≤ 80) where
+        shaped : v ≡ cond (ltb (length m) (rows * n)) nine (cond (ltb (length w) (rows * n)) nine (cond (ltb (length out) (n * n)) nine done)) → v ≡ checked three nine done
+        unfolding checked
+        shaped e = pick-no _ _ _ _ (le-ltb 64 rows r) (pick-no _ _ _ _ (le-ltb 80 n c) e)
+
+        pub short-matrix : length m < rows * n → v ≡ nine → v ≡ checked three nine done
+        short-matrix h e = shaped (pick-yes _ _ _ _ (lt-ltb _ _ h) e)
+
+        pub short-work : rows * n ≤ length m → length w < rows * n → v ≡ nine → v ≡ checked three nine done
+        short-work a h e = shaped (pick-no _ _ _ _ (le-ltb _ _ a) (pick-yes _ _ _ _ (lt-ltb _ _ h) e))
+
+        pub short-output : rows * n ≤ length m → rows * n ≤ length w → length out < n * n → v ≡ nine → v ≡ checked three nine done
+        short-output a b h e = shaped (pick-no _ _ _ _ (le-ltb _ _ a) (pick-no _ _ _ _ (le-ltb _ _ b) (pick-yes _ _ _ _ (lt-ltb _ _ h) e)))
+
+        pub carried-out : rows * n ≤ length m → rows * n ≤ length w → n * n ≤ length out → v ≡ done → v ≡ checked three nine done
+        carried-out a b h e = shaped (pick-no _ _ _ _ (le-ltb _ _ a) (pick-no _ _ _ _ (le-ltb _ _ b) (pick-no _ _ _ _ (le-ltb _ _ h) e)))
+
+-- the matrix that the call is about, decomposed
+abbrev pub decomposedOf : ℕ → ℕ → List Float → Qr
+decomposedOf rows n m = decomposed rows n (unitRows rows n m)
+
+-- the basis vectors one after another
+abbrev pub vectorsOf : ℕ → ℕ → List Float → List Float
+vectorsOf rows n m = let d = decomposedOf rows n m in basisOf n (rankOf d) (reflectorsOf n d)
+
+module _ (rows n : ℕ) (m w out : List Float) where
+  abbrev pub answerOf : NullSpace
+  answerOf = checked rows n m w out TooMany TooShort (Rank (rankOf (decomposedOf rows n m)))
+
+  abbrev pub workAfter : List Float
+  workAfter = checked rows n m w out w w (replicate (rows * n) zero⁺ ++ drop (rows * n) w)
+
+  abbrev pub outputAfter : List Float
+  outputAfter = checked rows n m w out out out (vectorsOf rows n m ++ drop ((n - rankOf (decomposedOf rows n m)) * n) out)
+
+pub record Spans (rows n : ℕ) (m w out w′ out′ : List Float) (r : NullSpace) : Type 0 where
+  pub answer : r ≡ answerOf rows n m w out
+  pub meaning : meaningOf r ≡ checked rows n m w out (refused 3) (refused 9) (rank (rankOf (decomposedOf rows n m)))
+  pub work : w′ ≡ workAfter rows n m w out
+  pub output : out′ ≡ outputAfter rows n m w out

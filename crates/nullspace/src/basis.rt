@@ -1,0 +1,43 @@
+// The basis: each unit vector from the rank on, reflected by every reflector from the last to the first.
+ghost use mathlib.Core.List.{_++_};
+ghost use mathlib.Core.Path.{_≡_};
+ghost use Prim.Native.Nat.{_-_, _*_, _≤_, _<_};
+ghost use lib.ListN.{length, drop, set, replicate};
+ghost use Rattle.floats.specs.Ops.{zero⁺, one};
+ghost use Rattle.nullspace.specs.Steps.{basisVector, basisOf};
+use crate::reflect;
+
+fn unit(e: &mut [f64], j: usize)
+    requires { ⌜ j < length (now e) ⌝ }
+    ensures { λ _. ⌜ now (e .exit) ≡ set (replicate (length (now (e .entry))) zero⁺) j one ⌝ }
+{
+    floats::clear(e);
+    e[j] = 1.0;
+}
+
+fn vector(e: &mut [f64], v: &[f64], rank: usize, j: usize)
+    requires { ⌜ (j < length (now e)) × (rank * length (now e) ≤ length (now v)) ⌝ }
+    ensures { λ _. ⌜ now (e .exit) ≡ basisVector (length (now (e .entry))) rank (now (v .entry)) j ⌝ }
+{
+    let n = e.len();
+    unit(e, j);
+    let mut r = rank;
+    while 0 < r {
+        r = r - 1;
+        let start = r * n;
+        let end = start + n;
+        reflect::reflect(&v[start..end], e);
+    }
+}
+
+// The vectors one after another at the head of `out`.
+pub fn vectors(out: &mut [f64], v: &[f64], n: usize, rank: usize)
+    requires { ⌜ ((rank ≤ n) × (n * n ≤ length (now out))) × (rank * n ≤ length (now v)) ⌝ }
+    ensures { λ _. ⌜ now (out .exit) ≡ basisOf n rank (now (v .entry)) ++ drop ((n - rank) * n) (now (out .entry)) ⌝ }
+{
+    for j in rank..n {
+        let start = (j - rank) * n;
+        let end = start + n;
+        vector(&mut out[start..end], v, rank, j);
+    }
+}

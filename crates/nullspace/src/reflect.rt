@@ -1,0 +1,101 @@
+// `reflect`: on a row of the list whose first row is the reflector, and on a vector of its own.
+ghost use mathlib.Core.Path.{_≡_};
+ghost use Prim.Native.Nat.{_+_, _*_, _≤_, _<_};
+ghost use lib.ListN.{length};
+ghost use Rattle.loops.specs.Turns.{upTo};
+ghost use Rattle.solver.specs.Steps.{lessPast};
+ghost use Rattle.solver.specs.Sums.{norm2Of};
+ghost use Rattle.nullspace.specs.Reflect.{dotOf, dotAt, lessBy, lessAll, lessRowAt, reflectOf, reflectAt};
+ghost use Rattle.nullspace.specs.Steps.{reflectedBy};
+
+fn dot_row(t: &[f64], n: usize, j: usize) -> f64
+    requires { ⌜ j * n + n ≤ length (now t) ⌝ }
+    ensures { λ r. ⌜ r ≡ dotAt n j (now (t .entry)) ⌝ }
+{
+    let mut s = -0.0;
+    for i in 0..n {
+        s = s + t[i] * t[j * n + i];
+    }
+    s
+}
+
+fn less_past(t: &mut [f64], n: usize, off: usize, f: f64)
+    requires { ⌜ off + n ≤ length (now t) ⌝ }
+    ensures { λ _. ⌜ now (t .exit) ≡ upTo n 0 (lessPast off f) (now (t .entry)) ⌝ }
+{
+    for i in 0..n {
+        t[off + i] = t[off + i] - f * t[i];
+    }
+}
+
+fn less_row(t: &mut [f64], n: usize, j: usize, f: f64)
+    requires { ⌜ j * n + n ≤ length (now t) ⌝ }
+    ensures { λ _. ⌜ now (t .exit) ≡ lessRowAt n j f (now (t .entry)) ⌝ }
+{
+    if f != 0.0 {
+        less_past(t, n, j * n, f);
+    }
+}
+
+fn reflect_row(t: &mut [f64], n: usize, vv: f64, j: usize)
+    requires { ⌜ j * n + n ≤ length (now t) ⌝ }
+    ensures { λ _. ⌜ now (t .exit) ≡ reflectAt n vv j (now (t .entry)) ⌝ }
+{
+    let f = 2.0 * dot_row(t, n, j) / vv;
+    less_row(t, n, j, f);
+}
+
+// Each of the `m` rows but the first, which is the reflector.
+pub fn reflect_rows(t: &mut [f64], n: usize, m: usize, vv: f64)
+    requires { ⌜ m * n ≤ length (now t) ⌝ }
+    ensures { λ _. ⌜ now (t .exit) ≡ reflectedBy n m vv (now (t .entry)) ⌝ }
+{
+    for j in 1..m {
+        reflect_row(t, n, vv, j);
+    }
+}
+
+// The product of two vectors, and the first one's with itself: two sums that do not wait for each other.
+struct Sums {
+    dot: f64,
+    norm: f64,
+}
+
+fn products(v: &[f64], c: &[f64]) -> Sums
+    requires { ⌜ length (now c) ≡ length (now v) ⌝ }
+    ensures { λ r. ⌜ (r .dot ≡ dotOf (length (now (v .entry))) (now (v .entry)) (now (c .entry))) × (r .norm ≡ norm2Of (now (v .entry))) ⌝ }
+{
+    let mut dot = -0.0;
+    let mut norm = -0.0;
+    for i in 0..v.len() {
+        dot = dot + v[i] * c[i];
+        norm = norm + v[i] * v[i];
+    }
+    Sums { dot, norm }
+}
+
+fn less_by(v: &[f64], f: f64, c: &mut [f64])
+    requires { ⌜ length (now c) ≡ length (now v) ⌝ }
+    ensures { λ _. ⌜ now (c .exit) ≡ upTo (length (now (v .entry))) 0 (lessBy (now (v .entry)) f) (now (c .entry)) ⌝ }
+{
+    for i in 0..v.len() {
+        c[i] = c[i] - f * v[i];
+    }
+}
+
+fn less_all(v: &[f64], f: f64, c: &mut [f64])
+    requires { ⌜ length (now c) ≡ length (now v) ⌝ }
+    ensures { λ _. ⌜ now (c .exit) ≡ lessAll (length (now (v .entry))) (now (v .entry)) f (now (c .entry)) ⌝ }
+{
+    if f != 0.0 {
+        less_by(v, f, c);
+    }
+}
+
+pub fn reflect(v: &[f64], c: &mut [f64])
+    requires { ⌜ length (now c) ≡ length (now v) ⌝ }
+    ensures { λ _. ⌜ now (c .exit) ≡ reflectOf (length (now (v .entry))) (now (v .entry)) (norm2Of (now (v .entry))) (now (c .entry)) ⌝ }
+{
+    let p = products(v, c);
+    less_all(v, 2.0 * p.dot / p.norm, c);
+}

@@ -1,0 +1,22 @@
+-- Worked eliminations, computed from the definitions. Numbers are written by their bits.
+use mathlib.Core.List.{List, [], _∷_}
+use mathlib.Core.Path.{_≡_, refl}
+use lib.Ieee.{Float, binary64, ofBits, toBits, isNan, add, sub, mul, div, lt, eq, le}
+use Rattle.floats.specs.Ops.{zero⁺, zero⁻, one}
+use Rattle.floats.specs.Magnitude.{magnitudeOf, maxOf}
+use Rattle.loops.specs.Turns.{go, turns, upTo, downTo, tries, tryTo, fold, every}
+use Rattle.solver.specs.Steps.{scaleOf, largerRow, pivotOf, swapAt, swapColumn, swapped, lessAt, lessRow, rowOf, belowOf, singular, columnOf, eliminatedOf, addTerm, sumOf, backAt, backOf, allFinite, solutionOf}
+
+abbrev three : Float
+three = ofBits binary64 0x4008_0000_0000_0000
+
+abbrev four : Float
+four = ofBits binary64 0x4010_0000_0000_0000
+
+-- Document 01's (k): [[0, 1], [1, 0]] with 3, 4 gives 4, 3. And a sum starts from −0.0: the only row of a 1 × 1 system is less an
+-- empty sum, and −0.0 − −0.0 is +0.0, while −0.0 − +0.0 would be −0.0.
+pub worked :
+    (solutionOf 2 (zero⁺ ∷ one ∷ one ∷ zero⁺ ∷ []) (three ∷ four ∷ []) ≡ go (four ∷ three ∷ []))
+    × (solutionOf 1 (one ∷ []) (zero⁻ ∷ []) ≡ go (zero⁺ ∷ []))
+unfolding solutionOf allFinite backOf backAt sumOf addTerm eliminatedOf columnOf singular belowOf rowOf lessRow lessAt swapped swapColumn swapAt pivotOf largerRow scaleOf every fold tryTo tries downTo upTo turns maxOf magnitudeOf isNan toBits ofBits add sub mul div lt eq le
+worked = (refl, refl)

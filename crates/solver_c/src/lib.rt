@@ -1,0 +1,38 @@
+// The calls of `solver` for programs in C and in Rust.
+ghost use mathlib.Core.Path.{_≡_};
+ghost use Rattle.solver.specs.Sums.{maxAbsOf, norm2Of};
+ghost use Rattle.solver_c.specs.Code.{SolvesC, codeOf};
+use solver::Elimination;
+
+// `solver::solve_dense`: 0 solved, 255 no answer, 3 and 9 refused.
+#[no_mangle]
+pub extern "C" fn solver_solve_dense(a: &mut [f64], b: &mut [f64], n: usize) -> u8
+    ensures { λ r. ⌜ SolvesC n (now (a .entry)) (now (b .entry)) (now (a .exit)) (now (b .exit)) r ⌝ }
+{
+    code(solver::solve_dense(a, b, n))
+}
+
+fn code(e: Elimination) -> u8
+    ensures { λ r. ⌜ r ≡ codeOf e ⌝ }
+{
+    match e {
+        Elimination::Solved => 0,
+        Elimination::None => 255,
+        Elimination::TooMany => 3,
+        Elimination::TooShort => 9,
+    }
+}
+
+#[no_mangle]
+pub extern "C" fn solver_max_abs(v: &[f64]) -> f64
+    ensures { λ r. ⌜ r ≡ maxAbsOf (now (v .entry)) ⌝ }
+{
+    solver::max_abs(v)
+}
+
+#[no_mangle]
+pub extern "C" fn solver_norm2(v: &[f64]) -> f64
+    ensures { λ r. ⌜ r ≡ norm2Of (now (v .entry)) ⌝ }
+{
+    solver::norm2(v)
+}
