@@ -15,18 +15,17 @@ fn unit(e: &mut [f64], j: usize)
     e[j] = 1.0;
 }
 
-fn vector(e: &mut [f64], v: &[f64], rank: usize, j: usize)
-    requires { ⌜ (j < length (now e)) × (rank * length (now e) ≤ length (now v)) ⌝ }
-    ensures { λ _. ⌜ now (e .exit) ≡ basisVector (length (now (e .entry))) rank (now (v .entry)) j ⌝ }
+fn vector(e: &mut [f64], n: usize, v: &[f64], rank: usize, j: usize)
+    requires { ⌜ ((length (now e) ≡ n) × (j < n)) × (rank * n ≤ length (now v)) ⌝ }
+    ensures { λ _. ⌜ now (e .exit) ≡ basisVector n rank (now (v .entry)) j ⌝ }
 {
-    let n = e.len();
     unit(e, j);
     let mut r = rank;
     while 0 < r {
         r = r - 1;
         let start = r * n;
         let end = start + n;
-        reflect::reflect(&v[start..end], e);
+        reflect::reflect(&v[start..end], n, e);
     }
 }
 
@@ -38,6 +37,6 @@ pub fn vectors(out: &mut [f64], v: &[f64], n: usize, rank: usize)
     for j in rank..n {
         let start = (j - rank) * n;
         let end = start + n;
-        vector(&mut out[start..end], v, rank, j);
+        vector(&mut out[start..end], n, v, rank, j);
     }
 }
