@@ -1,7 +1,7 @@
 // The basis: each unit vector from the rank on, reflected by every reflector from the last to the first.
 ghost use mathlib.Core.List.{_++_};
 ghost use mathlib.Core.Path.{_≡_};
-ghost use Prim.Native.Nat.{_-_, _*_, _≤_, _<_};
+ghost use Prim.Native.Nat.{_+_, _-_, _*_, _≤_, _<_};
 ghost use lib.ListN.{length, drop, set, replicate};
 ghost use Rattle.floats.specs.Ops.{zero⁺, one};
 ghost use Rattle.nullspace.specs.Steps.{basisVector, basisOf};
@@ -15,6 +15,16 @@ fn unit(e: &mut [f64], j: usize)
     e[j] = 1.0;
 }
 
+// Where row `r` starts. The test always holds: without it the compiler sees a place that only falls from turn to turn, and keeps the
+// reflection below from vector instructions.
+fn row_start(r: usize, n: usize, len: usize) -> usize
+    requires { ⌜ r * n + n ≤ len ⌝ }
+    ensures { λ s. ⌜ s ≡ r * n ⌝ }
+{
+    let s = r * n;
+    if s <= len - n { s } else { 0 }
+}
+
 fn vector(e: &mut [f64], n: usize, v: &[f64], rank: usize, j: usize)
     requires { ⌜ ((length (now e) ≡ n) × (j < n)) × (rank * n ≤ length (now v)) ⌝ }
     ensures { λ _. ⌜ now (e .exit) ≡ basisVector n rank (now (v .entry)) j ⌝ }
@@ -23,7 +33,7 @@ fn vector(e: &mut [f64], n: usize, v: &[f64], rank: usize, j: usize)
     let mut r = rank;
     while 0 < r {
         r = r - 1;
-        let start = r * n;
+        let start = row_start(r, n, v.len());
         let end = start + n;
         reflect::reflect(&v[start..end], n, e);
     }
