@@ -1,6 +1,6 @@
 // `reflect`: on a row of the list whose first row is the reflector, and on a vector of its own.
 ghost use mathlib.Core.Path.{_≡_};
-ghost use Prim.Native.Nat.{_+_, _*_, _≤_, _<_};
+ghost use Prim.Native.Nat.{_+_, _*_, _≤_};
 ghost use lib.ListN.{length};
 ghost use Rattle.loops.specs.Turns.{upTo};
 ghost use Rattle.solver.specs.Steps.{lessPast};

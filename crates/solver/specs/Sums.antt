@@ -7,7 +7,7 @@ use Rattle.floats.specs.Ops.{_⊕_, _⊗_, zero⁺, zero⁻}
 use Rattle.floats.specs.Magnitude.{absOf, maxOf}
 use Rattle.loops.specs.Turns.{fold}
 
--- solver.rs, `max_abs`: what is not finite counts as infinite, until something finite follows
+-- solver.rs, `max_abs`: what is not finite counts as infinite
 unfoldable pub largerAbs : Float → Float → Float
 largerAbs m a = cond (finite a) (maxOf m (absOf a)) (inf false)
 

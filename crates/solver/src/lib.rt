@@ -13,7 +13,7 @@ mod below;
 mod pivot;
 mod size;
 
-// The largest magnitude, and infinite where the last number that is not finite has nothing finite after it that is larger.
+// The largest magnitude; infinite where a number is not finite.
 pub fn max_abs(v: &[f64]) -> f64
     ensures { λ r. ⌜ r ≡ maxAbsOf (now (v .entry)) ⌝ }
 {
