@@ -103,28 +103,24 @@ fn ends(t: &mut Tally) {
     }
 }
 
-fn nanoseconds(f: extern "C" fn(f64) -> f64, xs: &[f64]) -> f64 {
+fn nanoseconds(f: unsafe extern "C" fn(f64) -> f64, xs: &[f64]) -> f64 {
     let start = Instant::now();
     let mut sum = 0u64;
     for &x in xs {
-        sum = sum.wrapping_add(f(x).to_bits());
+        sum = sum.wrapping_add(unsafe { f(x) }.to_bits());
     }
     black_box(sum);
     start.elapsed().as_nanos() as f64 / xs.len() as f64
 }
 
-extern "C" fn ours(x: f64) -> f64 {
-    unsafe { root_sqrt(x) }
-}
-
 // Throughput: the least time of a call over many rounds of independent calls, in turn.
 fn times(name: &str, xs: &[f64]) {
-    let (mut best_ours, mut best_hardware) = (f64::MAX, f64::MAX);
+    let (mut ours, mut theirs) = (f64::MAX, f64::MAX);
     for _ in 0..400 {
-        best_ours = best_ours.min(nanoseconds(black_box(ours), xs));
-        best_hardware = best_hardware.min(nanoseconds(black_box(hardware), xs));
+        ours = ours.min(nanoseconds(black_box(root_sqrt), xs));
+        theirs = theirs.min(nanoseconds(black_box(hardware), xs));
     }
-    println!("{}: {:.2} ns a call, hardware {:.2} ns: {:.2} times", name, best_ours, best_hardware, best_ours / best_hardware);
+    println!("{}: {:.2} ns a call, hardware {:.2} ns: {:.2} times", name, ours, theirs, ours / theirs);
 }
 
 fn main() {

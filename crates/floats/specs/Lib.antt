@@ -1,3 +1,4 @@
 pub mod Only
 pub mod Ops
 pub mod Magnitude
+pub mod Lists

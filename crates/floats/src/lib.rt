@@ -1,20 +1,22 @@
 // What every room needs of f64 and of slices of them. Each function is total, and its promise is an equation.
 ghost use mathlib.Core.Path.{_≡_};
-ghost use lib.ListN.{getD, set};
+ghost use Prim.Native.Nat.{min};
+ghost use lib.ListN.{length, getD, set, replicate};
 ghost use lib.Ieee.{nan};
 ghost use lib.Ieee.Scale.{finite};
+ghost use Rattle.floats.specs.Lists.{copiedOf};
 ghost use Rattle.floats.specs.Magnitude.{absOf, magnitudeOf, maxOf};
+ghost use Rattle.floats.specs.Ops.{zero⁺};
 
-// x without its sign.
+// x without its sign, by its bits: a branch on the sign would be mispredicted every second time in a scan over a matrix. A
+// NaN has no bits of its own, so it is tested for first.
 pub fn abs(x: f64) -> f64
     ensures { λ r. ⌜ r ≡ absOf x ⌝ }
 {
-    if x < 0.0 {
-        -x
-    } else if x == 0.0 {
-        0.0
-    } else {
+    if x != x {
         x
+    } else {
+        f64::from_bits(f64::to_bits(x) % 0x8000_0000_0000_0000)
     }
 }
 
@@ -38,15 +40,14 @@ pub fn max(a: f64, b: f64) -> f64
     }
 }
 
-// The place of x in the order of magnitudes. A NaN has no bits of its own, so it is tested for first.
+// The place of x in the order of magnitudes.
 pub fn magnitude(x: f64) -> u64
     ensures { λ r. ⌜ r ≡ magnitudeOf x ⌝ }
 {
-    let a = abs(x);
-    if a != a {
+    if x != x {
         0x7ff8_0000_0000_0000
     } else {
-        f64::to_bits(a)
+        f64::to_bits(x) % 0x8000_0000_0000_0000
     }
 }
 
@@ -70,5 +71,30 @@ pub fn put(s: &mut [f64], i: usize, v: f64)
 {
     if i < s.len() {
         s[i] = v;
+    }
+}
+
+// Every place +0.0.
+pub fn clear(s: &mut [f64])
+    ensures { λ _. ⌜ now (s .exit) ≡ replicate (length (now (s .entry))) zero⁺ ⌝ }
+{
+    for i in 0..s.len() {
+        s[i] = 0.0;
+    }
+}
+
+fn shorter(a: usize, b: usize) -> usize
+    ensures { λ r. ⌜ r ≡ min a b ⌝ }
+{
+    if a < b { a } else { b }
+}
+
+// As much of `from` as there is room for goes to the head of `to`.
+pub fn copy(from: &[f64], to: &mut [f64])
+    ensures { λ _. ⌜ now (to .exit) ≡ copiedOf (now (from .entry)) (now (to .entry)) ⌝ }
+{
+    let n = shorter(from.len(), to.len());
+    for i in 0..n {
+        to[i] = from[i];
     }
 }

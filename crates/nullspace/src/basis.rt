@@ -11,7 +11,7 @@ fn unit(e: &mut [f64], j: usize)
     requires { ⌜ j < length (now e) ⌝ }
     ensures { λ _. ⌜ now (e .exit) ≡ set (replicate (length (now (e .entry))) zero⁺) j one ⌝ }
 {
-    solver::clear(e);
+    floats::clear(e);
     e[j] = 1.0;
 }
 

@@ -43,7 +43,7 @@ pub fn null_space(m: &[f64], rows: usize, n: usize, work: &mut [f64], out: &mut 
         return NullSpace::TooShort;
     }
     let rank = span(m, rows, n, &mut work[..size], out);
-    solver::clear(&mut work[..size]);
+    floats::clear(&mut work[..size]);
     NullSpace::Rank(rank)
 }
 

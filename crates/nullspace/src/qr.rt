@@ -103,7 +103,7 @@ fn make_reflector(t: &mut [f64], n: usize, k: usize, row: usize, norm: f64)
     ensures { λ _. ⌜ now (t .exit) ≡ reflectorOf n k row norm (now (t .entry)) ⌝ }
 {
     swap_head(t, n, row);
-    solver::clear(&mut t[..k]);
+    floats::clear(&mut t[..k]);
     push_away(t, k, norm);
 }
 

@@ -11,7 +11,7 @@ hi z = z / 8388608
 abbrev lo : ℕ → ℕ
 lo z = z % 8388608
 
-module _ (z : ℕ) (small : z ≤ 2 ^ 54 + 3) where
+module _ (z : ℕ) (small : z ≤ 2 ^ 54 + 1) where
   hi-le : hi z ≤ 2147483648
   hi-le = omega arith
 

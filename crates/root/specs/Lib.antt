@@ -1,6 +1,4 @@
 pub mod Root
+pub mod Rounded
+pub mod Examples
 pub mod Whole
-pub mod Order
-pub mod Place
-pub mod Normal
-pub mod Value

@@ -1,5 +1,5 @@
--- IEEE 754's square root at binary64, rounded to the nearest value. Definitions only.
--- Patterns are counted in order: of a positive value's pattern b the neighbours are b - 1 and b + 1, also where the distance changes.
+-- IEEE 754's square root at binary64, rounded to the nearest value (01, "Port order", 1). Definitions only.
+-- Patterns are in the order of their values: the neighbours of a positive value's pattern b are b - 1 and b + 1, also where the distance changes.
 use Prim.Native.Nat.{ℕ, zero, suc, _+_, _-_, _*_, _/_, _%_, _^_}
 use mathlib.Core.Bool.{Bool, true, false, cond}
 use lib.Dec.{ltb}
@@ -25,7 +25,7 @@ unfoldable pub below : ℕ → ℕ → Bool
 unfolding halfway
 below y b = ltb (halfway b * halfway b) y
 
--- a with its lowest k bits, still clear, set from the top: each where the pattern is then still below y
+-- a with its lowest k bits, which are clear, set from the top: a bit stays where the pattern's halfway point, squared, is then still below y
 unfoldable pub setBits : ℕ → ℕ → ℕ → ℕ
 unfolding below
 setBits zero y a = a

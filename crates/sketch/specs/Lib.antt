@@ -5,3 +5,4 @@ pub mod Rows
 pub mod Involved
 pub mod Check
 pub mod Given
+pub mod Cases

@@ -1,8 +1,7 @@
 // Calls on a bare matrix that lies in a lent slice row after row, and on bare slices, after the Rust's solver.rs.
 ghost use mathlib.Core.Path.{_≡_};
 ghost use Prim.Native.Nat.{_*_};
-ghost use lib.ListN.{length, replicate};
-ghost use Rattle.floats.specs.Ops.{zero⁺};
+ghost use lib.ListN.{length};
 ghost use Rattle.loops.specs.Turns.{tried};
 ghost use Rattle.solver.specs.Sums.{largerAbs, maxAbsOf, norm2Of};
 ghost use Rattle.solver.specs.Steps.{solutionOf};
@@ -11,9 +10,8 @@ ghost use Rattle.solver.specs.Promise.{Solves};
 mod back;
 mod below;
 mod pivot;
-mod size;
 
-// The largest magnitude; infinite where a number is not finite.
+// The largest magnitude, and infinite where a number is not finite.
 pub fn max_abs(v: &[f64]) -> f64
     ensures { λ r. ⌜ r ≡ maxAbsOf (now (v .entry)) ⌝ }
 {
@@ -28,7 +26,7 @@ fn larger_abs(m: f64, a: f64) -> f64
     ensures { λ r. ⌜ r ≡ largerAbs m a ⌝ }
 {
     if floats::is_finite(a) {
-        floats::max(m, size::abs(a))
+        floats::max(m, floats::abs(a))
     } else {
         1.0 / 0.0
     }
@@ -73,11 +71,11 @@ pub fn solve_dense(a: &mut [f64], b: &mut [f64], n: usize) -> Elimination
     }
     let nn = n * n;
     let found = solve_square(&mut a[..nn], &mut b[..n], n);
-    clear(&mut a[..nn]);
+    floats::clear(&mut a[..nn]);
     if found {
         return Elimination::Solved;
     }
-    clear(&mut b[..n]);
+    floats::clear(&mut b[..n]);
     Elimination::None
 }
 
@@ -91,13 +89,4 @@ fn solve_square(a: &mut [f64], b: &mut [f64], n: usize) -> bool
     }
     back::substitute(a, b, n);
     back::all_finite(b)
-}
-
-// Every place +0.0.
-pub fn clear(s: &mut [f64])
-    ensures { λ _. ⌜ now (s .exit) ≡ replicate (length (now (s .entry))) zero⁺ ⌝ }
-{
-    for i in 0..s.len() {
-        s[i] = 0.0;
-    }
 }

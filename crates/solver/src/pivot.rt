@@ -8,7 +8,6 @@ ghost use Rattle.loops.specs.Turns.{tried, upTo};
 ghost use Rattle.solver.specs.Candidate.{Sized};
 ghost use Rattle.solver.specs.Steps.{sys, largerOf, scaleOf, largerRow, pivotOf, swapAt, swapColumn, swapped, columnOf, eliminatedOf};
 use crate::below;
-use crate::size;
 
 // The largest magnitude, NaN skipped, at least 1e-300.
 fn scale(a: &[f64]) -> f64
@@ -25,7 +24,7 @@ fn larger(m: f64, v: f64) -> f64
     requires { ⌜ isNan m ≡ false ⌝ }
     ensures { λ r. ⌜ (r ≡ largerOf m v) × (isNan r ≡ false) ⌝ }
 {
-    let a = size::abs(v);
+    let a = floats::abs(v);
     if m < a { a } else { m }
 }
 
@@ -36,7 +35,7 @@ fn pivot_row(a: &[f64], n: usize, col: usize) -> usize
 {
     let mut best = Candidate {
         row: col,
-        size: size::magnitude(a[col * n + col]),
+        size: floats::magnitude(a[col * n + col]),
     };
     for row in col + 1..n {
         best = larger_row(a, n, col, row, best);
@@ -54,7 +53,7 @@ fn larger_row(a: &[f64], n: usize, col: usize, q: usize, p: Candidate) -> Candid
     requires { ⌜ ((q < n) × ((col < n) × (n * n ≤ length (now a)))) × Sized n col (now a) p ⌝ }
     ensures { λ r. ⌜ (r .row ≡ largerRow n col (now (a .entry)) q (p .row)) × Sized n col (now (a .entry)) r ⌝ }
 {
-    let s = size::magnitude(a[q * n + col]);
+    let s = floats::magnitude(a[q * n + col]);
     if p.size < s {
         Candidate { row: q, size: s }
     } else {
@@ -98,7 +97,7 @@ fn column(a: &mut [f64], b: &mut [f64], n: usize, scale: f64, col: usize) -> boo
     ensures { λ r. ⌜ tried r (sys (now (a .exit)) (now (b .exit))) ≡ columnOf n scale col (sys (now (a .entry)) (now (b .entry))) ⌝ }
 {
     let piv = pivot_row(a, n, col);
-    if size::abs(a[piv * n + col]) <= scale * 1e-15 {
+    if floats::abs(a[piv * n + col]) <= scale * 1e-15 {
         return false;
     }
     swap_in(a, b, n, col, piv);

@@ -1,9 +1,9 @@
 -- `root::climb` meets its contract: the lower halfway point stays below, and a turn's test shows it of the next number. Assumes nothing.
-use mathlib.Core.Path.{_≡_, subst}
-use Prim.Native.Nat.{ℕ, _+_, _-_, _*_, _^_, _≤_, _<_}
+use Prim.Native.Nat.{_+_, _-_, _*_, _^_, _≤_}
 use native.Mathlib.Omega.{arith}
 use borrow.Author.Needs.{needs}
-use Rattle.root.specs.Whole.{Over, no-tie, over-small, up}
+use Rattle.root.specs.Whole.{Over}
+use Rattle.root.proofs.Whole.{no-tie, over-small, up}
 use Rattle.root.proofs.Halves.{square-over, square-under}
 use Rattle.root.proofs.climb.Statement.{statement}
 use Rattle.root.proofs.climb.Tie as tie
@@ -17,9 +17,6 @@ abbrev μ-loop : tie.MeasureT-loop
 -- so a is never large
 small : (c : tie.At-loop Inv-loop μ-loop) → c .loop .a ≤ 2 ^ 53
 small c = over-small (c .before .args .t) (c .loop .a) (search needs) (c .loop .inv)
-
-loop-holds : tie.Need-loop-holds Inv-loop μ-loop
-loop-holds c = search needs
 
 mul-square : tie.Need-mul-square Inv-loop μ-loop
 mul-square c = omega (arith, small c)
@@ -40,7 +37,7 @@ loop-again : tie.Need-loop-again Inv-loop μ-loop
 loop-again c =
     let a = c .before .before .loop .a in
     let t = c .before .before .before .args .t in
-    up t a (square-over (2 * a + 1) t (c .before .square .result) (c .before .square .ensures) (c .if1 .taken))
+    up (t * 2 ^ 46) a (square-over (2 * a + 1) t (c .before .square .result) (c .before .square .ensures) (c .if1 .taken))
 
 returns : tie.Need-returns Inv-loop μ-loop
 returns c =
@@ -54,7 +51,7 @@ climb-spec =
     (tie.spec
     Inv-loop
     μ-loop
-    loop-holds
+    (λ c. search needs)
     mul-square
     add-square
     square-requires

@@ -1,9 +1,9 @@
 -- `root::fall` meets its contract: the upper halfway point stays above, and a turn's test shows it of the next number. Assumes nothing.
-use mathlib.Core.Path.{_≡_, subst}
-use Prim.Native.Nat.{ℕ, _+_, _-_, _*_, _^_, _≤_}
+use Prim.Native.Nat.{_-_, _*_, _^_, _≤_}
 use native.Mathlib.Omega.{arith}
 use borrow.Author.Needs.{needs}
-use Rattle.root.specs.Whole.{Under, under-large, down}
+use Rattle.root.specs.Whole.{Under}
+use Rattle.root.proofs.Whole.{under-large, down}
 use Rattle.root.proofs.Halves.{square-over, square-under}
 use Rattle.root.proofs.fall.Statement.{statement}
 use Rattle.root.proofs.fall.Tie as tie
@@ -17,9 +17,6 @@ abbrev μ-loop : tie.MeasureT-loop
 -- so a is never near 0
 large : (c : tie.At-loop Inv-loop μ-loop) → 2 ^ 52 ≤ c .loop .a
 large c = under-large (c .before .args .t) (c .loop .a) (search needs) (c .loop .inv .1)
-
-loop-holds : tie.Need-loop-holds Inv-loop μ-loop
-loop-holds c = search needs
 
 mul-square : tie.Need-mul-square Inv-loop μ-loop
 mul-square c = omega arith
@@ -56,7 +53,7 @@ fall-spec =
     (tie.spec
     Inv-loop
     μ-loop
-    loop-holds
+    (λ c. search needs)
     mul-square
     sub-square
     square-requires

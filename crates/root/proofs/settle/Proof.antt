@@ -8,7 +8,8 @@ use lib.Dec.{ltb}
 use mir.Val.{boolByte}
 use borrow.Author.Needs.{needs}
 use borrow.Author.Tests.{lt-ltb, le-ltb}
-use Rattle.root.specs.Whole.{Over, Under, Root, no-tie, up}
+use Rattle.root.specs.Whole.{Over, Under, Root}
+use Rattle.root.proofs.Whole.{no-tie, up}
 use Rattle.root.proofs.Halves.{square-over, square-under, square-small}
 use Rattle.root.proofs.settle.Statement.{statement}
 use Rattle.root.proofs.settle.Tie as tie
@@ -28,7 +29,7 @@ same t r f h =
 
 module _ (t r f : ℕ) (sq : f ≡ (2 * r + 1) * (2 * r + 1) / 2 ^ 46) where
   above : f < t → Over t (r + 1)
-  above h = up t r (square-over (2 * r + 1) t f sq h)
+  above h = up (t * 2 ^ 46) r (square-over (2 * r + 1) t f sq h)
 
   under : t ≤ f → Under t r
   under h = no-tie t r (square-under (2 * r + 1) t f sq h)
@@ -38,7 +39,7 @@ module _ (t r f : ℕ) (sq : f ≡ (2 * r + 1) * (2 * r + 1) / 2 ^ 46) where
 
 -- the lower point of q + 1, from the upper one's square
 lower : (t q f : ℕ) → f ≡ (2 * (q + 1) + 1) * (2 * (q + 1) + 1) / 2 ^ 46 → f < t + (q + 1) / 0x800_0000_0000 → Over t (q + 1)
-lower t q f sq d = up t q (omega arith)
+lower t q f sq d = up (t * 2 ^ 46) q (omega arith)
 
 here : (t r f : ℕ) → f ≡ (2 * r + 1) * (2 * r + 1) / 2 ^ 46 → t ≤ f → f < t + r / 0x800_0000_0000 → Root t r
 here t r f sq h d =

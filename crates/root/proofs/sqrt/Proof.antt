@@ -1,14 +1,15 @@
 -- `root::sqrt` meets its contract, by the pattern's tests. Assumes nothing.
 use mathlib.Core.Path.{_≡_, refl, sym, ap, _∙_, subst}
-use Prim.Native.Nat.{ℕ, _+_, _*_, _/_, _^_}
+use Prim.Native.Nat.{ℕ, _*_, _^_}
 use native.Mathlib.Omega.{arith}
 use lib.Dec.{T}
-use lib.Ieee.{Float, nan, binary64, div, ne, fits, ofBits, toBits}
+use lib.Ieee.{nan, binary64, div, fits, ofBits, toBits}
 use lib.Ieee.Compare.{differs-from-itself}
 use borrow.Author.Needs.{needs}
-use Rattle.root.specs.Root.{count, rootBits, sqrtOf}
-use Rattle.root.specs.Normal.{count-low, normal-is}
-use Rattle.root.specs.Value.{own-positive, own-other, own-kept}
+use Rattle.root.specs.Root.{rootBits, sqrtOf}
+use Rattle.root.proofs.Normal.{count-low, normal-is}
+use Rattle.root.specs.Examples.{root-zero, root-minus-zero, root-infinite}
+use Rattle.root.proofs.Value.{own-positive, own-other, own-kept}
 use Rattle.root.proofs.Patterns.{equals-itself}
 use Rattle.root.proofs.sqrt.Statement.{statement}
 use Rattle.root.proofs.sqrt.Tie as tie
@@ -21,18 +22,6 @@ nan-is = refl
 root-nan : sqrtOf nan ≡ nan
 unfolding sqrtOf
 root-nan = refl
-
-root-zero : sqrtOf (ofBits binary64 0) ≡ ofBits binary64 0
-unfolding sqrtOf ofBits
-root-zero = refl
-
-root-minus-zero : sqrtOf (ofBits binary64 0x8000_0000_0000_0000) ≡ ofBits binary64 0x8000_0000_0000_0000
-unfolding sqrtOf ofBits
-root-minus-zero = refl
-
-root-infinite : sqrtOf (ofBits binary64 0x7ff0_0000_0000_0000) ≡ ofBits binary64 0x7ff0_0000_0000_0000
-unfolding sqrtOf ofBits
-root-infinite = refl
 
 -- what owning an `f64` tells: the format holds it
 held : (c : tie.Start) → T (fits binary64 (c .args .x))

@@ -6,7 +6,7 @@ use native.Mathlib.Omega.{arith}
 use lib.Count.{leadingZeros}
 use lib.Ieee.{Float, binary64, ofBits}
 use Rattle.root.specs.Root.{rootBits}
-use Rattle.root.specs.Normal.{raised, zeros-bounds, raised-bounds, raised-is}
+use Rattle.root.proofs.Normal.{raised, zeros-bounds, raised-bounds, raised-is}
 use Rattle.root.proofs.tiny.Statement.{statement}
 use Rattle.root.proofs.tiny.Tie as tie
 

@@ -1,0 +1,233 @@
+-- What the turns of the loops come to, over plain lists and numbers. Assumes nothing.
+use mathlib.Core.Bool.{Bool, true, false, not, cond}
+use mathlib.Core.List.{List, [], _∷_, map}
+use mathlib.Core.Logic.{_≢_}
+use mathlib.Core.Path.{_≡_, refl, sym, ap, _∙_}
+use Prim.Native.Nat.{ℕ, zero, suc, _+_, _≤_, _<_, max, min}
+use native.Mathlib.Nat.{not-suc-le-zero}
+use native.Mathlib.Omega.{arith}
+use borrow.Author.Tests.{eq-eqb, ne-eqb, not-true, not-false}
+use lib.Dec.{eqb}
+use lib.ListN.{length, getD, set, take, drop, length-take}
+use lib.Seq.{getD-take}
+use Rattle.groups.proofs.Forest.{getD-any, Kept, root-next, root-done, root-kept, root-is, rt-low, join-falls, halved-falls, halved-up}
+use Rattle.groups.proofs.Keeps.{upTo-keeps}
+use Rattle.groups.specs.Listed.{pointOf, enteredOf, numberedOf, groupOf, listEquation, listEquations, listPoint, listPoints, groupsOf}
+use Rattle.groups.specs.Parents.{up, Falls, Gives, halved, rootOf, joinTo, joinAll, joined, alone}
+use Rattle.groups.specs.Touches.{number, numberAt, numbersOf, touchedIn, held}
+use Rattle.groups.specs.declared.Listing.{Listing}
+use Rattle.groups.specs.Tied.{tieAll, tiedOf}
+use Rattle.loops.specs.Turns.{upTo, upTo-next, fold}
+use Rattle.sketch.specs.Involved.{involvedOf, touchedOf}
+use Rattle.sketch.specs.declared.Active.{Active}
+use Rattle.sketch.specs.declared.Equation.{Equation}
+use Rattle.sketch.specs.declared.Line.{Line}
+use Rattle.sketch.specs.declared.Rad.{Rad}
+use Rattle.sketch.specs.declared.Touched.{Touched}
+
+-- a turn of `root`: u and a are x's parent, b is a's, v is x's parent after the store
+module _ (ps ps′ : List ℕ) (x u a b v : ℕ) (f : Falls ps) (n : u ≢ x) (e : u ≡ up ps x) (i : a ≡ up ps x) (j : b ≡ up ps a)
+    (q : ps′ ≡ set ps x b) (o : v ≡ up ps′ x) where
+  path : ps′ ≡ halved ps x
+  path = rw (q, j, i)
+
+  moves : up ps x ≢ x
+  moves h = n (e ∙ h)
+
+  pub turn-falls : Falls ps′
+  turn-falls = rw path (halved-falls ps x f)
+
+  pub turn-less : v < x
+  turn-less = omega (arith, f x, f (up ps x), moves, o ∙ ap (λ l. up l x) path ∙ halved-up ps x)
+
+  pub turn-root : (R : Gives ℕ) → rootOf ps x ≡ R → rootOf ps′ v ≡ R
+  turn-root R r = rw (o, path) (sym (root-next ps x f moves) ∙ r)
+
+-- a call's two answers make one record
+pub both : {A : Type 0} (g : Gives A) (ps : List ℕ) (a : A) → ps ≡ g .parents → a ≡ g .answer → record { parents = ps; answer = a } ≡ g
+both g ps a p q = rw (p, q)
+
+pub join-is : (ps ps₁ ps₂ r : List ℕ) (x y a b l s : ℕ) → r ≡ set ps₂ l s → l ≡ max a b → s ≡ min a b → b ≡ rootOf ps₁ y .answer
+    → ps₂ ≡ rootOf ps₁ y .parents → a ≡ rootOf ps x .answer → ps₁ ≡ rootOf ps x .parents → r ≡ joinTo x ps y
+unfolding joinTo
+join-is ps ps₁ ps₂ r x y a b l s e₁ e₂ e₃ e₄ e₅ e₆ e₇ = rw (e₁, e₂, e₃, e₄, e₅, e₆, e₇)
+
+pub root-falls : (ps ps′ : List ℕ) (x : ℕ) → Falls ps → ps′ ≡ rootOf ps x .parents → Falls ps′
+root-falls ps ps′ x f e = rw e (root-kept ps x f .falls)
+
+fold-falls : (p : ℕ) (qs ps : List ℕ) → Falls ps → Falls (fold (joinTo p) ps qs)
+unfolding fold
+fold-falls p [] ps f = f
+fold-falls p (q ∷ qs) ps f = fold-falls p qs (joinTo p ps q) (join-falls p ps q f)
+
+pub joinAll-falls : (pts ps ps′ : List ℕ) → Falls ps → ps′ ≡ joinAll pts ps → Falls ps′
+unfolding joinAll
+joinAll-falls pts ps ps′ f e = rw e (fold-falls (getD pts 0 0) (drop 1 pts) ps f)
+
+pub numbers-length : (t : Touched) → length (numbersOf t) ≡ min (t .count) 4
+numbers-length t = length-take (t .count) (numberAt t 0 ∷ numberAt t 1 ∷ numberAt t 2 ∷ numberAt t 3 ∷ [])
+
+four : (t : Touched) (j : ℕ) → j < 4 → getD (numberAt t 0 ∷ numberAt t 1 ∷ numberAt t 2 ∷ numberAt t 3 ∷ []) j 0 ≡ numberAt t j
+four t zero h = refl
+four t (suc zero) h = refl
+four t (suc (suc zero)) h = refl
+four t (suc (suc (suc zero))) h = refl
+four t (suc (suc (suc (suc j)))) h = absurd (omega arith)
+
+pub number-at : (t : Touched) (j : ℕ) → j < length (numbersOf t) → getD (numbersOf t) j 0 ≡ numberAt t j
+number-at t j h =
+    getD-take (t .count) (numberAt t 0 ∷ numberAt t 1 ∷ numberAt t 2 ∷ numberAt t 3 ∷ []) j 0 (omega (arith, numbers-length t))
+    ∙ four t j (omega (arith, numbers-length t))
+
+-- an equation touches at most four points, so none is cut off
+whole : (ls : List Line) (e : Equation) → numbersOf (touchedOf (involvedOf ls e)) ≡ map number (involvedOf ls e)
+whole ls (Equation.Coincident a b) = refl
+whole ls (Equation.Level a b axis) = refl
+whole ls (Equation.Parallel i j) = refl
+whole ls (Equation.Perpendicular i j) = refl
+whole ls (Equation.Collinear i j) = refl
+whole ls (Equation.Equal i j) = refl
+whole ls Equation.Held = refl
+whole ls (Equation.Distance a b value) = refl
+whole ls (Equation.AxisDistance a b axis value side) = refl
+whole ls (Equation.Length l value) = refl
+whole ls (Equation.PointLine p l value side) = refl
+whole ls (Equation.ArcEnds c f t) = refl
+whole ls (Equation.Radius c f value) = refl
+whole ls (Equation.LineCircle l c (Rad.Point p) side) = refl
+whole ls (Equation.LineCircle l c (Rad.Value v) side) = refl
+whole ls (Equation.CircleCircle c₁ (Rad.Point p₁) c₂ (Rad.Point p₂) contact) = refl
+whole ls (Equation.CircleCircle c₁ (Rad.Point p₁) c₂ (Rad.Value v₂) contact) = refl
+whole ls (Equation.CircleCircle c₁ (Rad.Value v₁) c₂ (Rad.Point p₂) contact) = refl
+whole ls (Equation.CircleCircle c₁ (Rad.Value v₁) c₂ (Rad.Value v₂) contact) = refl
+whole ls (Equation.LineArcAt l c p) = refl
+whole ls (Equation.ArcArcAt c₁ c₂ p) = refl
+whole ls (Equation.Midpoint p l) = refl
+whole ls (Equation.ArcMidpoint p c f t) = refl
+whole ls (Equation.Symmetric p q l) = refl
+whole ls (Equation.EqualRadius c₁ f₁ c₂ f₂) = refl
+
+pub touched-is : (es : List Active) (ls : List Line) (n k : ℕ) (d : Active) (t : Touched) → k < length (take n es)
+    → t ≡ touchedOf (involvedOf ls (getD es k d .equation)) → numbersOf t ≡ touchedIn (take n es) ls k
+unfolding touchedIn
+touched-is es ls n k d t h e =
+    rw (e, getD-take n es k held (omega (arith, length-take n es)), getD-any es k held d (omega (arith, length-take n es)))
+    (whole ls (getD es k d .equation))
+
+pub point-falls : (b : Bool) (q : ℕ) (g : Gives Listing) (ps : List ℕ) → Falls (g .parents) → ps ≡ pointOf b q g .parents → Falls ps
+unfolding pointOf
+point-falls true q g ps f e = rw e (root-kept (g .parents) q f .falls)
+point-falls false q g ps f e = rw e f
+
+number-count : (b : Bool) (s t : Listing) → t .count ≡ s .count + 1 → cond b t s .count ≤ s .count + 1
+number-count true s t e = omega arith
+number-count false s t e = omega arith
+
+pub point-count : (b : Bool) (q : ℕ) (g : Gives Listing) (s : Listing) → s ≡ pointOf b q g .answer → s .count ≤ g .answer .count + 1
+unfolding pointOf enteredOf numberedOf
+point-count true q g s e = rw e (number-count (eqb (getD (g .answer .index) (rootOf (g .parents) q .answer) 40) 40) (g .answer) _ refl)
+point-count false q g s e = rw e (omega arith)
+
+pub group-falls : (index pts ps ps′ : List ℕ) → Falls ps → ps′ ≡ groupOf index pts ps .parents → Falls ps′
+unfolding groupOf
+group-falls index [] ps ps′ f e = rw e f
+group-falls index (o ∷ pts) ps ps′ f e = rw e (root-kept ps o f .falls)
+
+-- the way out of `root`
+module _ (ps : List ℕ) (x u : ℕ) (R : Gives ℕ) (e : u ≡ up ps x) (h : u ≡ x) (r : rootOf ps x ≡ R) where
+  pub ends-answer : x ≡ R .answer
+  ends-answer = ap (λ g. g .answer) (sym (root-done ps x (sym e ∙ h)) ∙ r)
+
+  pub ends-parents : ps ≡ R .parents
+  ends-parents = ap (λ g. g .parents) (sym (root-done ps x (sym e ∙ h)) ∙ r)
+
+pub root-low : (ps : List ℕ) (x r : ℕ) → Falls ps → r ≡ rootOf ps x .answer → r ≤ x
+root-low ps x r f e = rw (e, root-is ps x f) (rt-low ps f x)
+
+pub numbered-has : (r : ℕ) (s : Listing) → r < length (s .index) → getD (s .index) r 0 ≢ 40 → s ≡ numberedOf r s
+unfolding numberedOf
+numbered-has r s h n = rw (ne-eqb (getD (s .index) r 40) 40 (λ e. n (getD-any (s .index) r 0 40 h ∙ e)))
+
+pub numbered-new : (r : ℕ) (s : Listing) → r < length (s .index) → getD (s .index) r 0 ≡ 40
+    → record { index = set (s .index) r (s .count); «of_point» = s .«of_point»; count = s .count + 1 } ≡ numberedOf r s
+unfolding numberedOf
+numbered-new r s h e = rw (eq-eqb (getD (s .index) r 40) 40 (getD-any (s .index) r 40 0 h ∙ e))
+
+pub entered-is : (r q : ℕ) (s n : Listing) → r < length (n .index) → n ≡ numberedOf r s
+    → record { index = n .index; «of_point» = set (n .«of_point») q (getD (n .index) r 0); count = n .count } ≡ enteredOf r q s
+unfolding enteredOf
+entered-is r q s n h e = rw (getD-any (n .index) r 0 40 h, e)
+
+module _ (q : ℕ) (g : Gives Listing) where
+  pub point-not : (b : Bool) → not b ≡ true → g ≡ pointOf b q g
+  unfolding pointOf
+  point-not b t = rw (not-true b t)
+
+  pub point-answer : (b : Bool) (r : ℕ) (s : Listing) → not b ≡ false → s ≡ enteredOf r q (g .answer) → r ≡ rootOf (g .parents) q .answer
+      → s ≡ pointOf b q g .answer
+  unfolding pointOf
+  point-answer b r s t e i = rw (not-false b t, e, i)
+
+  pub point-parents : (b : Bool) (ps : List ℕ) → not b ≡ false → ps ≡ rootOf (g .parents) q .parents → ps ≡ pointOf b q g .parents
+  unfolding pointOf
+  point-parents b ps t e = rw (not-false b t, e)
+
+pub group-none : (index pts ps : List ℕ) (n : ℕ) → n ≡ length pts → n ≡ 0 → groupOf index pts ps ≡ record { parents = ps; answer = 40 }
+unfolding groupOf
+group-none index [] ps n e h = refl
+group-none index (o ∷ pts) ps n e h = absurd (omega arith)
+
+pub group-owned : (index pts ps : List ℕ) (o : ℕ) → 0 < length pts → getD pts 0 0 ≡ o
+    → groupOf index pts ps ≡ record { parents = rootOf ps o .parents; answer = getD index (rootOf ps o .answer) 40 }
+unfolding groupOf
+group-owned index [] ps o h e = absurd (not-suc-le-zero h)
+group-owned index (p ∷ pts) ps o h e = rw e
+
+pub take-again : {A : Type 0} (n : ℕ) (l : List A) → take (length (take n l)) l ≡ take n l
+take-again zero l = refl
+take-again (suc n) [] = refl
+take-again {A} (suc n) (x ∷ l) = ap {B = List A} (λ r. x ∷ r) (take-again n l)
+
+-- a turn of each sweep over the equations
+module _ (es : List Active) (ls : List Line) (n k : ℕ) (d : Active) (t : Touched) (h : k < length (take n es))
+    (e : t ≡ touchedOf (involvedOf ls (getD es k d .equation))) where
+  pub tie-turn : (s s′ R : List Bool) → s′ ≡ tieAll (numbersOf t) s
+      → upTo (length (take n es)) k (λ k. tieAll (touchedIn (take n es) ls k)) s ≡ R
+      → upTo (length (take n es)) (k + 1) (λ k. tieAll (touchedIn (take n es) ls k)) s′ ≡ R
+  tie-turn s s′ R q r =
+      upTo-next (λ k. tieAll (touchedIn (take n es) ls k)) (length (take n es)) k s s′ R h
+      (q ∙ ap (λ l. tieAll l s) (touched-is es ls n k d t h e)) r
+
+  pub join-turn : (s s′ R : List ℕ) → s′ ≡ joinAll (numbersOf t) s
+      → upTo (length (take n es)) k (λ k. joinAll (touchedIn (take n es) ls k)) s ≡ R
+      → upTo (length (take n es)) (k + 1) (λ k. joinAll (touchedIn (take n es) ls k)) s′ ≡ R
+  join-turn s s′ R q r =
+      upTo-next (λ k. joinAll (touchedIn (take n es) ls k)) (length (take n es)) k s s′ R h
+      (q ∙ ap (λ l. joinAll l s) (touched-is es ls n k d t h e)) r
+
+  pub list-turn : (index : List ℕ) (g : Gives (List ℕ)) (ps : List ℕ) (v : ℕ) (R : Gives (List ℕ)) → ps ≡ groupOf index (numbersOf t) (g .parents) .parents
+      → v ≡ groupOf index (numbersOf t) (g .parents) .answer → upTo (length (take n es)) k (listEquation index (touchedIn (take n es) ls)) g ≡ R
+      → upTo (length (take n es)) (k + 1) (listEquation index (touchedIn (take n es) ls)) (record { parents = ps; answer = set (g .answer) k v }) ≡ R
+  unfolding listEquation
+  list-turn index g ps v R p q r =
+      upTo-next (listEquation index (touchedIn (take n es) ls)) (length (take n es)) k g (record { parents = ps; answer = set (g .answer) k v }) R h
+      (rw (p, q, touched-is es ls n k d t h e)) r
+
+pub joined-falls : (t : ℕ → List ℕ) (n : ℕ) (ps ps′ : List ℕ) → Falls ps → ps′ ≡ joined t n ps → Falls ps′
+unfolding joined
+joined-falls t n ps ps′ f e =
+    rw e
+    (upTo-keeps (λ k l. Falls l) (λ k. joinAll (t k)) n (λ k l h p. joinAll-falls (t k) l (joinAll (t k) l) p refl) 0 ps (omega arith) f)
+
+pub points-falls : (tied : List Bool) (ps ps′ : List ℕ) → Falls ps → ps′ ≡ listPoints tied ps .parents → Falls ps′
+unfolding listPoints listPoint
+points-falls tied ps ps′ f e =
+    rw e
+    (upTo-keeps (λ q g. Falls (g .parents)) (listPoint tied) 40
+    (λ q g h p. point-falls (getD tied q false) q g (listPoint tied q g .parents) p refl) 0 _ (omega arith) f)
+
+pub groups-are : (t : ℕ → List ℕ) (n : ℕ) (tied : List Bool) (p₀ p₁ p₂ e : List ℕ) (s : Listing) → e ≡ listEquations (s .index) t n p₂ .answer
+    → s ≡ listPoints tied p₁ .answer → p₂ ≡ listPoints tied p₁ .parents → tied ≡ tiedOf t n → p₁ ≡ joined t n p₀ → p₀ ≡ alone
+    → record { «of_point» = s .«of_point»; «of_equation» = e; count = s .count } ≡ groupsOf t n
+unfolding groupsOf
+groups-are t n tied p₀ p₁ p₂ e s h₁ h₂ h₃ h₄ h₅ h₆ = rw (h₁, h₂, h₃, h₄, h₅, h₆)

@@ -1,0 +1,11 @@
+pub mod Keeps
+pub mod Forest
+pub mod Links
+pub mod Roots
+pub mod Ties
+pub mod Numbers
+pub mod Listings
+pub mod Places
+pub mod Theorem
+pub mod Inside
+pub mod Laws

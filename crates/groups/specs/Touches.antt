@@ -1,0 +1,34 @@
+-- The points that an equation touches, by number.
+use mathlib.Core.List.{List, [], _∷_, map}
+use Prim.Native.Nat.{ℕ}
+use lib.ListN.{getD, take}
+use Rattle.sketch.specs.Involved.{involvedOf, noPoint}
+use Rattle.sketch.specs.Parts.{equationsOf}
+use Rattle.sketch.specs.declared.Active.{Active}
+use Rattle.sketch.specs.declared.Build.{Build}
+use Rattle.sketch.specs.declared.Equation.{Equation}
+use Rattle.sketch.specs.declared.Line.{Line}
+use Rattle.sketch.specs.declared.PointNo.{PointNo}
+use Rattle.sketch.specs.declared.Touched.{Touched}
+
+abbrev pub number : PointNo → ℕ
+number p = p .0
+
+-- as the code hands them out, in four places
+abbrev pub numberAt : Touched → ℕ → ℕ
+numberAt t j = number (getD (t .points) j noPoint)
+
+abbrev pub numbersOf : Touched → List ℕ
+numbersOf t = take (t .count) (numberAt t 0 ∷ numberAt t 1 ∷ numberAt t 2 ∷ numberAt t 3 ∷ [])
+
+-- what stands past the last equation touches nothing
+abbrev pub held : Active
+held = record { equation = Equation.Held }
+
+-- equation k of the list es
+unfoldable pub touchedIn : List Active → List Line → ℕ → List ℕ
+touchedIn es ls k = map number (involvedOf ls (getD es k held .equation))
+
+-- equation k of a build
+abbrev pub touchedBy : Build → ℕ → List ℕ
+touchedBy b = touchedIn (equationsOf b) (b .lines)

@@ -1,0 +1,23 @@
+// The groups of a build (equations.rs, `tied_points`, `groups`): points that equations tie together, and those equations.
+mod numbering;
+mod parents;
+mod sweeps;
+mod tied;
+
+pub use sweeps::groups;
+pub use tied::tied_points;
+
+// The group of each point and of each equation, 40 where it is in none. Grouping are numbered from 0 in the order of their
+// lowest points, so group g's points and equations are the places that hold g, walked rising.
+pub struct Grouping {
+    pub of_point: [usize; 40],
+    pub of_equation: [usize; 40],
+    pub count: usize,
+}
+
+// Grouping while their points are being listed: beside them, for each root, its group's number.
+pub struct Listing {
+    pub index: [usize; 40],
+    pub of_point: [usize; 40],
+    pub count: usize,
+}

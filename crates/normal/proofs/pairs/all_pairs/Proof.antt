@@ -1,0 +1,39 @@
+-- Assumes nothing.
+use Prim.Native.Nat.{_-_, _≤_}
+use mathlib.Core.Path.{_≡_, refl}
+use borrow.Author.Needs.{needs}
+use lib.ListN.{length}
+use Rattle.loops.specs.Turns.{upTo, upTo-next, upTo-done}
+use Rattle.normal.specs.Normal.{pairsOf}
+use Rattle.normal.proofs.pairs.all_pairs.Statement.{statement}
+use Rattle.normal.proofs.pairs.all_pairs.Tie as tie
+
+abbrev Inv-loop : tie.InvT-loop
+Inv-loop j a₀ rows nf i₀ a i =
+    (i ≤ rows) × (length a ≡ length a₀) × (upTo rows i (pairsOf rows nf j) a ≡ upTo rows 0 (pairsOf rows nf j) a₀)
+
+abbrev μ-loop : tie.MeasureT-loop
+μ-loop j a₀ rows nf i₀ a i = rows - i
+
+loop-holds : tie.Need-loop-holds Inv-loop μ-loop
+loop-holds c = (search needs, refl, refl)
+
+loop-again : tie.Need-loop-again Inv-loop μ-loop
+loop-again c = (search needs, search needs, search (upTo-next, needs))
+
+returns : tie.Need-returns Inv-loop μ-loop
+returns c = search (upTo-done, needs)
+
+pub all-pairs-spec : {M : Type 1} → statement M
+all-pairs-spec =
+    tie.close
+    (tie.spec
+    Inv-loop
+    μ-loop
+    loop-holds
+    (λ c κs. search needs)
+    (λ c. search needs)
+    (λ c. search needs)
+    loop-again
+    (λ c. search needs)
+    returns)

@@ -1,2 +1,0 @@
--- The sign's bit of a float.
-pub mod Sign

@@ -1,0 +1,201 @@
+//! What a set of jobs or calls holds. Of jobs, tables by class, status, kind, iterations and ending;
+//! it fails unless over half of the sound ones converge after real iterations with every kind among
+//! them. Of calls, a table by class and sort of reply.
+
+use std::collections::BTreeMap;
+use std::error::Error;
+use std::io::{BufRead, Write};
+
+use counted::{Rig, Run};
+use job::{Build, EQUATIONS, Kind, Status};
+
+use crate::{calls, generate, pack};
+
+const FITTED: Status = 0;
+const FAILED: Status = 7;
+const STATUSES: [Status; 8] = [0, 1, 2, 3, 4, 5, 6, 7];
+/// As many damping tries as a round has.
+const TRIES: usize = 12;
+/// As many rounds as a fit has.
+const ROUNDS: usize = 200;
+
+/// How a group's fit came to its end.
+#[derive(Clone, Copy, Debug, PartialEq, Eq, PartialOrd, Ord)]
+pub enum Ending {
+    AtStart,
+    NothingFree,
+    /// Converged: within tolerance no try of the last round helped.
+    AtRest,
+    /// Converged: the polishing steps were spent.
+    Polished,
+    /// Failed: outside tolerance no try of the last round helped.
+    Stuck,
+    SpentConverged,
+    SpentFailed,
+}
+
+pub fn ending(run: &Run) -> Ending {
+    match (run.x.is_some(), run.iterations) {
+        (true, 0) => Ending::AtStart,
+        (false, 0) => Ending::NothingFree,
+        (true, _) if run.last == TRIES => Ending::AtRest,
+        (false, _) if run.last == TRIES => Ending::Stuck,
+        (true, ROUNDS) => Ending::SpentConverged,
+        (true, _) => Ending::Polished,
+        (false, _) => Ending::SpentFailed,
+    }
+}
+
+/// A job as far as the figures go: its status and its groups' fits up to the first that fails.
+pub struct Seen {
+    pub status: Status,
+    pub build: Option<Build>,
+    pub groups: Vec<(Vec<Kind>, Run)>,
+}
+
+impl Seen {
+    /// Fitted, with at least one round in some group.
+    fn worked(&self) -> bool {
+        self.status == FITTED && self.groups.iter().any(|(_, run)| run.iterations > 0)
+    }
+}
+
+pub fn look(text: &[u8]) -> Seen {
+    let build = match job::read(text) {
+        Ok(build) => build,
+        Err(status) => return Seen { status, build: None, groups: Vec::new() },
+    };
+    let rig = Rig::new(&build);
+    let (mut status, mut groups) = (FITTED, Vec::new());
+    for g in 0..rig.groups() {
+        let kinds = rig.equations_of(g).iter().map(|&k| build.equations[k].kind).collect();
+        let run = rig.fit(g);
+        if run.x.is_none() {
+            status = FAILED;
+        }
+        groups.push((kinds, run));
+        if status == FAILED {
+            break;
+        }
+    }
+    Seen { status, build: Some(build), groups }
+}
+
+#[derive(Default)]
+struct Tally {
+    classes: BTreeMap<String, BTreeMap<Status, usize>>,
+    worked: usize,
+    sound: usize,
+    kinds: BTreeMap<Kind, [usize; 2]>,
+    rounds: BTreeMap<usize, [usize; 2]>,
+    endings: BTreeMap<Ending, usize>,
+}
+
+/// Iterations by their order of size: each entry is the least of its range.
+const RANGES: [usize; 9] = [0, 1, 3, 6, 11, 21, 51, 101, 200];
+
+impl Tally {
+    fn add(&mut self, class: String, seen: &Seen) {
+        *self.classes.entry(class).or_default().entry(seen.status).or_default() += 1;
+        self.sound += usize::from(seen.build.is_some());
+        self.worked += usize::from(seen.worked());
+        self.add_kinds(seen);
+        for (_, run) in &seen.groups {
+            let range = RANGES.iter().copied().filter(|&least| least <= run.iterations).max().unwrap_or(0);
+            self.rounds.entry(range).or_default()[usize::from(run.x.is_none())] += 1;
+            *self.endings.entry(ending(run)).or_default() += 1;
+        }
+    }
+
+    /// Every equation of a sound job counts as seen, and as worked in a group of a fitted job
+    /// that took rounds; `held` is in no group, so the job's own rounds decide.
+    fn add_kinds(&mut self, seen: &Seen) {
+        for e in seen.build.iter().flat_map(|b| &b.equations) {
+            self.kinds.entry(e.kind).or_default()[0] += 1;
+            if e.kind == Kind::Held {
+                self.kinds.entry(e.kind).or_default()[1] += usize::from(seen.worked());
+            }
+        }
+        for (kinds, run) in &seen.groups {
+            if seen.status == FITTED && run.iterations > 0 {
+                kinds.iter().for_each(|&k| self.kinds.entry(k).or_default()[1] += 1);
+            }
+        }
+    }
+
+    fn print(&self, output: &mut impl Write) -> std::io::Result<()> {
+        let heads: String = STATUSES.iter().map(|s| format!(" {s} |")).collect();
+        writeln!(output, "| class | jobs |{heads}\n|---|---|{}", "---|".repeat(STATUSES.len()))?;
+        for (class, statuses) in &self.classes {
+            let cells: String = STATUSES.iter().map(|s| format!(" {} |", statuses.get(s).unwrap_or(&0))).collect();
+            writeln!(output, "| {class} | {} |{cells}", statuses.values().sum::<usize>())?;
+        }
+        let totals: String = STATUSES.iter().map(|s| format!(" {} |", self.classes.values().filter_map(|c| c.get(s)).sum::<usize>())).collect();
+        writeln!(output, "| all | {} |{totals}", self.classes.values().flat_map(BTreeMap::values).sum::<usize>())?;
+        writeln!(output, "\n| kind | equations in sound jobs | in groups fitted after iterations |\n|---|---|---|")?;
+        for (kind, [seen, worked]) in &self.kinds {
+            writeln!(output, "| {} | {seen} | {worked} |", kind.name())?;
+        }
+        writeln!(output, "\n| iterations from | groups converged | failed |\n|---|---|---|")?;
+        for (least, [converged, failed]) in &self.rounds {
+            writeln!(output, "| {least} | {converged} | {failed} |")?;
+        }
+        writeln!(output, "\n| ending of a group's fit | groups |\n|---|---|")?;
+        for (ending, count) in &self.endings {
+            writeln!(output, "| {ending:?} | {count} |")?;
+        }
+        writeln!(output, "\n{} sound jobs, {} of them fitted after iterations", self.sound, self.worked)
+    }
+
+    fn hold(&self) -> Result<(), String> {
+        if 2 * self.worked <= self.sound {
+            return Err("half of the sound jobs or fewer converge after iterations".to_string());
+        }
+        let missing = EQUATIONS.iter().find(|k| self.kinds.get(k).is_none_or(|[_, worked]| *worked == 0));
+        missing.map_or(Ok(()), |kind| Err(format!("no {} in a group fitted after iterations", kind.name())))
+    }
+}
+
+pub fn of_jobs(input: &mut impl BufRead, output: &mut impl Write) -> Result<(), Box<dyn Error>> {
+    let mut tally = Tally::default();
+    while let Some(record) = pack::next(input)? {
+        tally.add(record.class, &look(&record.text));
+    }
+    tally.print(output)?;
+    output.flush()?;
+    Ok(tally.hold()?)
+}
+
+/// A reply's sort: its first word, a status with its number; or that it is bare floats.
+pub fn sort(reply: &str) -> &str {
+    let first = reply.lines().next().unwrap_or("nothing");
+    match first.split_once('=') {
+        Some((key, _)) if key != "status" => key,
+        _ if first.len() >= 16 => "floats",
+        _ => first,
+    }
+}
+
+pub fn of_calls(input: &mut impl BufRead, output: &mut impl Write) -> Result<(), Box<dyn Error>> {
+    let mut sorts: BTreeMap<(String, String), usize> = BTreeMap::new();
+    while let Some(record) = pack::next(input)? {
+        let reply = calls::answer(&record.text)?;
+        *sorts.entry((record.class, sort(&reply).to_string())).or_default() += 1;
+    }
+    writeln!(output, "| class | reply | calls |\n|---|---|---|")?;
+    for ((class, sort), count) in sorts {
+        writeln!(output, "| {class} | {sort} | {count} |")?;
+    }
+    Ok(())
+}
+
+/// The jobs of a seed in which some group's fit ends so: index, class and length of each.
+pub fn find(output: &mut impl Write, wanted: &str, seed: u64, count: u64) -> Result<(), Box<dyn Error>> {
+    for index in 0..count {
+        let made = generate::job(seed, index);
+        if look(&made.text).groups.iter().any(|(_, run)| format!("{:?}", ending(run)) == wanted) {
+            writeln!(output, "{index} {} {}", made.class, made.text.len())?;
+        }
+    }
+    Ok(())
+}
