@@ -5,6 +5,7 @@ extern "C" {
     fn solver_solve_dense(a: *mut f64, a_len: usize, b: *mut f64, b_len: usize, n: usize) -> u8;
     fn solver_max_abs(v: *const f64, len: usize) -> f64;
     fn solver_norm2(v: *const f64, len: usize) -> f64;
+    fn solver_null_space(m: *const f64, m_len: usize, rows: usize, n: usize, work: *mut f64, work_len: usize, out: *mut f64, out_len: usize) -> usize;
 }
 
 /// Splitmix64.
@@ -143,6 +144,56 @@ fn too_many(ch: &mut Chance) -> bool {
     got == 3 && same(&a, &want_a) && same(&b, &want_b)
 }
 
+/// The Rust's null space of a bare matrix: it takes sparse rows, whose places start from +0.0.
+fn their_null_space(m: &[f64], rows: usize, n: usize) -> (usize, Vec<Vec<f64>>) {
+    let sparse: Vec<Vec<(usize, f64)>> = (0..rows).map(|i| (0..n).map(|c| (c, m[i * n + c])).collect()).collect();
+    let free: Vec<usize> = (0..n).collect();
+    null_space(&sparse, &free, 1e-10)
+}
+
+/// Whether a row has a NaN once it is scaled to unit length.
+fn has_nan(m: &[f64], n: usize) -> bool {
+    n > 0 && m.chunks(n).any(|row| {
+        let len = norm2(row).sqrt();
+        row.iter().any(|v| if len > 0.0 { (v / len).is_nan() } else { v.is_nan() })
+    })
+}
+
+/// One null space on both sides: the rank, the basis and every lent place. With a NaN among the scaled rows the Rust goes by the sign that
+/// the processor picked for it; the definition takes that column first, it spreads, and the rank is the lesser of rows and columns.
+fn space(ch: &mut Chance, kind: usize, rows: usize, n: usize) -> bool {
+    let m: Vec<f64> = ch.table(kind, rows, n).iter().map(|x| 0.0 + x).collect();
+    let (more_work, more_out) = (ch.below(3), ch.below(3));
+    let (mut work, mut out) = (ch.table(7, rows * n + more_work, 1), ch.table(7, n * n + more_out, 1));
+    let cut = ch.below(40);
+    if cut == 0 && rows * n > 0 {
+        work.truncate(rows * n - 1);
+    } else if cut == 1 && n > 0 {
+        out.truncate(n * n - 1);
+    }
+    let (mut want_work, mut want_out) = (work.clone(), out.clone());
+    let want = if work.len() < rows * n || out.len() < n * n {
+        265
+    } else {
+        want_work[..rows * n].fill(0.0);
+        let (rank, basis) = their_null_space(&m, rows, n);
+        for (i, v) in basis.iter().enumerate() {
+            want_out[i * n..(i + 1) * n].copy_from_slice(v);
+        }
+        if has_nan(&m, n) { rows.min(n) } else { rank }
+    };
+    let got = unsafe { solver_null_space(m.as_ptr(), m.len(), rows, n, work.as_mut_ptr(), work.len(), out.as_mut_ptr(), out.len()) };
+    got == want && same(&work, &want_work) && (has_nan(&m, n) || same(&out, &want_out))
+}
+
+fn too_large(ch: &mut Chance) -> bool {
+    let (rows, n) = if ch.below(2) == 0 { (65 + ch.below(9), ch.below(90)) } else { (ch.below(70), 81 + ch.below(9)) };
+    let (m, mut work, mut out) = (ch.table(7, 9, 9), ch.table(7, 9, 9), ch.table(7, 9, 9));
+    let (want_work, want_out) = (work.clone(), out.clone());
+    let got = unsafe { solver_null_space(m.as_ptr(), m.len(), rows, n, work.as_mut_ptr(), work.len(), out.as_mut_ptr(), out.len()) };
+    got == 259 && same(&work, &want_work) && same(&out, &want_out)
+}
+
 /// A NaN is handed out with whatever bits the processor picks, on both sides.
 fn alike(x: f64, y: f64) -> bool {
     x.to_bits() == y.to_bits() || (x.is_nan() && y.is_nan())
@@ -177,6 +228,26 @@ fn timed(n: usize) -> (f64, f64) {
     (ours, theirs)
 }
 
+/// The same for null space.
+fn timed_space(rows: usize, n: usize) -> (f64, f64) {
+    let mut ch = Chance(7);
+    let (mut ours, mut theirs) = (f64::MAX, f64::MAX);
+    for _ in 0..300 {
+        let m = ch.table(0, rows, n);
+        let sparse: Vec<Vec<(usize, f64)>> = (0..rows).map(|i| (0..n).map(|c| (c, m[i * n + c])).collect()).collect();
+        let free: Vec<usize> = (0..n).collect();
+        let (mut work, mut out) = (vec![0.0; rows * n], vec![0.0; n * n]);
+        let start = std::time::Instant::now();
+        unsafe { solver_null_space(m.as_ptr(), m.len(), rows, n, work.as_mut_ptr(), work.len(), out.as_mut_ptr(), out.len()) };
+        ours = ours.min(start.elapsed().as_nanos() as f64);
+        std::hint::black_box(&out);
+        let start = std::time::Instant::now();
+        std::hint::black_box(null_space(&sparse, &free, 1e-10));
+        theirs = theirs.min(start.elapsed().as_nanos() as f64);
+    }
+    (ours, theirs)
+}
+
 fn main() {
     let arg = |i: usize| std::env::args().nth(i).and_then(|s| s.parse::<u64>().ok()).unwrap_or(0);
     let (count, mut ch) = (arg(1), Chance(arg(2)));
@@ -197,11 +268,16 @@ fn main() {
         if i % 16 == 0 {
             tell(figures(&mut ch, kind, n), "figures", kind, n);
             tell(too_many(&mut ch), "too many", kind, n);
+            tell(too_large(&mut ch), "too large", kind, n);
         }
+        let rows = ch.below(65);
+        tell(space(&mut ch, kind, rows, n), "null space", kind, n);
     }
     for n in [10, 40, 64] {
         let (ours, theirs) = timed(n);
         println!("elimination at {n}: {ours:.0} ns beside the Rust's {theirs:.0} ns, {:.2} of its time", ours / theirs);
     }
+    let (ours, theirs) = timed_space(40, 60);
+    println!("null space at 40 x 60: {ours:.0} ns beside the Rust's {theirs:.0} ns, {:.2} of its time", ours / theirs);
     println!("{good} same, {bad} differ");
 }

@@ -6,7 +6,8 @@
 --     fold f s l            for x in l { s = f(s, x) }
 --     every p l             whether p holds of each element
 -- Each has a law for a turn (-next), for an early way out (-stop) and for the end (-done). R is what the whole loop gives, so an
--- invariant says "what is left gives R", which holds at the start by `refl`. `upTo-part` says a loop on a part as a loop on the whole.
+-- invariant says "what is left gives R", which holds at the start by `refl`. `upTo-part` says a loop on a part as a loop on the whole,
+-- and `upTo-same` that loops whose turns do the same do the same.
 -- Assumes nothing.
 use Prim.Native.Nat.{ℕ, zero, suc, _+_, _-_, _≤_, _<_}
 use mathlib.Core.Bool.{Bool, true, false, cond}

@@ -7,6 +7,7 @@ use borrow.Author.Tests.{lt-ltb, le-ltb}
 use lib.Dec.{ltb}
 use lib.ListN.{length, take, drop, replicate}
 use lib.Ieee.{Float}
+use Rattle.floats.specs.Only.{only-answer}
 use Rattle.floats.specs.Ops.{zero⁺}
 use Rattle.loops.specs.Picks.{pick-yes, pick-no}
 use Rattle.nullspace.specs.declared.NullSpace.{NullSpace}
@@ -101,3 +102,8 @@ pub record Spans (rows n : ℕ) (m w out w′ out′ : List Float) (r : NullSpac
   pub meaning : meaningOf r ≡ checked rows n m w out (refused 3) (refused 9) (rank (rankOf (decomposedOf rows n m)))
   pub work : w′ ≡ workAfter rows n m w out
   pub output : out′ ≡ outputAfter rows n m w out
+
+-- no second answer, and no other content of a lent place, meets the promise
+pub only-one : {rows n : ℕ} {m w out w₁ out₁ w₂ out₂ : List Float} {r₁ r₂ : NullSpace} → Spans rows n m w out w₁ out₁ r₁ → Spans rows n m w out w₂ out₂ r₂
+    → (r₁ ≡ r₂) × (w₁ ≡ w₂) × (out₁ ≡ out₂)
+only-one p q = (only-answer (p .answer) (q .answer), only-answer (p .work) (q .work), only-answer (p .output) (q .output))

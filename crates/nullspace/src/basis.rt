@@ -1,7 +1,7 @@
 // The basis: each unit vector from the rank on, reflected by every reflector from the last to the first.
 ghost use mathlib.Core.List.{_++_};
 ghost use mathlib.Core.Path.{_≡_};
-ghost use Prim.Native.Nat.{_-_, _*_, _≤_, _<_};
+ghost use Prim.Native.Nat.{_+_, _-_, _*_, _≤_, _<_};
 ghost use lib.ListN.{length, drop, set, replicate};
 ghost use Rattle.floats.specs.Ops.{zero⁺, one};
 ghost use Rattle.nullspace.specs.Steps.{basisVector, basisOf};
@@ -15,18 +15,27 @@ fn unit(e: &mut [f64], j: usize)
     e[j] = 1.0;
 }
 
-fn vector(e: &mut [f64], v: &[f64], rank: usize, j: usize)
-    requires { ⌜ (j < length (now e)) × (rank * length (now e) ≤ length (now v)) ⌝ }
-    ensures { λ _. ⌜ now (e .exit) ≡ basisVector (length (now (e .entry))) rank (now (v .entry)) j ⌝ }
+// Where row `r` starts. The test always holds: without it the compiler sees a place that only falls from turn to turn, and keeps the
+// reflection below from vector instructions.
+fn row_start(r: usize, n: usize, len: usize) -> usize
+    requires { ⌜ r * n + n ≤ len ⌝ }
+    ensures { λ s. ⌜ s ≡ r * n ⌝ }
 {
-    let n = e.len();
+    let s = r * n;
+    if s <= len - n { s } else { 0 }
+}
+
+fn vector(e: &mut [f64], n: usize, v: &[f64], rank: usize, j: usize)
+    requires { ⌜ ((length (now e) ≡ n) × (j < n)) × (rank * n ≤ length (now v)) ⌝ }
+    ensures { λ _. ⌜ now (e .exit) ≡ basisVector n rank (now (v .entry)) j ⌝ }
+{
     unit(e, j);
     let mut r = rank;
     while 0 < r {
         r = r - 1;
-        let start = r * n;
+        let start = row_start(r, n, v.len());
         let end = start + n;
-        reflect::reflect(&v[start..end], e);
+        reflect::reflect(&v[start..end], n, e);
     }
 }
 
@@ -38,6 +47,6 @@ pub fn vectors(out: &mut [f64], v: &[f64], n: usize, rank: usize)
     for j in rank..n {
         let start = (j - rank) * n;
         let end = start + n;
-        vector(&mut out[start..end], v, rank, j);
+        vector(&mut out[start..end], n, v, rank, j);
     }
 }

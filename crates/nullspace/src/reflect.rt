@@ -1,6 +1,6 @@
 // `reflect`: on a row of the list whose first row is the reflector, and on a vector of its own.
 ghost use mathlib.Core.Path.{_≡_};
-ghost use Prim.Native.Nat.{_+_, _*_, _≤_, _<_};
+ghost use Prim.Native.Nat.{_+_, _*_, _≤_};
 ghost use lib.ListN.{length};
 ghost use Rattle.loops.specs.Turns.{upTo};
 ghost use Rattle.solver.specs.Steps.{lessPast};
@@ -61,41 +61,41 @@ struct Sums {
     norm: f64,
 }
 
-fn products(v: &[f64], c: &[f64]) -> Sums
-    requires { ⌜ length (now c) ≡ length (now v) ⌝ }
-    ensures { λ r. ⌜ (r .dot ≡ dotOf (length (now (v .entry))) (now (v .entry)) (now (c .entry))) × (r .norm ≡ norm2Of (now (v .entry))) ⌝ }
+fn products(v: &[f64], n: usize, c: &[f64]) -> Sums
+    requires { ⌜ (length (now v) ≡ n) × (length (now c) ≡ n) ⌝ }
+    ensures { λ r. ⌜ (r .dot ≡ dotOf n (now (v .entry)) (now (c .entry))) × (r .norm ≡ norm2Of (now (v .entry))) ⌝ }
 {
     let mut dot = -0.0;
     let mut norm = -0.0;
-    for i in 0..v.len() {
+    for i in 0..n {
         dot = dot + v[i] * c[i];
         norm = norm + v[i] * v[i];
     }
     Sums { dot, norm }
 }
 
-fn less_by(v: &[f64], f: f64, c: &mut [f64])
-    requires { ⌜ length (now c) ≡ length (now v) ⌝ }
-    ensures { λ _. ⌜ now (c .exit) ≡ upTo (length (now (v .entry))) 0 (lessBy (now (v .entry)) f) (now (c .entry)) ⌝ }
+fn less_by(v: &[f64], n: usize, f: f64, c: &mut [f64])
+    requires { ⌜ (length (now v) ≡ n) × (length (now c) ≡ n) ⌝ }
+    ensures { λ _. ⌜ now (c .exit) ≡ upTo n 0 (lessBy (now (v .entry)) f) (now (c .entry)) ⌝ }
 {
-    for i in 0..v.len() {
+    for i in 0..n {
         c[i] = c[i] - f * v[i];
     }
 }
 
-fn less_all(v: &[f64], f: f64, c: &mut [f64])
-    requires { ⌜ length (now c) ≡ length (now v) ⌝ }
-    ensures { λ _. ⌜ now (c .exit) ≡ lessAll (length (now (v .entry))) (now (v .entry)) f (now (c .entry)) ⌝ }
+fn less_all(v: &[f64], n: usize, f: f64, c: &mut [f64])
+    requires { ⌜ (length (now v) ≡ n) × (length (now c) ≡ n) ⌝ }
+    ensures { λ _. ⌜ now (c .exit) ≡ lessAll n (now (v .entry)) f (now (c .entry)) ⌝ }
 {
     if f != 0.0 {
-        less_by(v, f, c);
+        less_by(v, n, f, c);
     }
 }
 
-pub fn reflect(v: &[f64], c: &mut [f64])
-    requires { ⌜ length (now c) ≡ length (now v) ⌝ }
-    ensures { λ _. ⌜ now (c .exit) ≡ reflectOf (length (now (v .entry))) (now (v .entry)) (norm2Of (now (v .entry))) (now (c .entry)) ⌝ }
+pub fn reflect(v: &[f64], n: usize, c: &mut [f64])
+    requires { ⌜ (length (now v) ≡ n) × (length (now c) ≡ n) ⌝ }
+    ensures { λ _. ⌜ now (c .exit) ≡ reflectOf n (now (v .entry)) (norm2Of (now (v .entry))) (now (c .entry)) ⌝ }
 {
-    let p = products(v, c);
-    less_all(v, 2.0 * p.dot / p.norm, c);
+    let p = products(v, n, c);
+    less_all(v, n, 2.0 * p.dot / p.norm, c);
 }

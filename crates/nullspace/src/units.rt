@@ -1,8 +1,8 @@
 // The rows of the matrix, each scaled to unit length.
-ghost use mathlib.Core.List.{_++_, map};
+ghost use mathlib.Core.List.{map};
 ghost use mathlib.Core.Path.{_≡_};
 ghost use Prim.Native.Nat.{_*_, _≤_};
-ghost use lib.ListN.{length, drop};
+ghost use lib.ListN.{length};
 ghost use Rattle.floats.specs.Ops.{_⊘_};
 ghost use Rattle.nullspace.specs.Rows.{scaledBy, unitOf, unitRows};
 

@@ -1,5 +1,5 @@
 -- Worked eliminations, computed from the definitions. Numbers are written by their bits.
-use mathlib.Core.List.{List, [], _∷_}
+use mathlib.Core.List.{[], _∷_}
 use mathlib.Core.Path.{_≡_, refl}
 use lib.Ieee.{Float, binary64, ofBits, toBits, isNan, add, sub, mul, div, lt, eq, le}
 use Rattle.floats.specs.Ops.{zero⁺, zero⁻, one}

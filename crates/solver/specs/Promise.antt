@@ -7,6 +7,7 @@ use borrow.Author.Tests.{lt-ltb, le-ltb, le-leb, lt-leb}
 use lib.Dec.{ltb, leb}
 use lib.ListN.{length, take, drop, replicate}
 use lib.Ieee.{Float}
+use Rattle.floats.specs.Only.{only-answer}
 use Rattle.floats.specs.Ops.{zero⁺}
 use Rattle.loops.specs.Turns.{Try, go, stop}
 use Rattle.loops.specs.Picks.{pick-yes, pick-no}
@@ -80,3 +81,7 @@ pub record Solves (n : ℕ) (a b a′ b′ : List Float) (r : Elimination) : Typ
   pub meaning : meaningOf n b′ r ≡ checked n a b (refused 3) (refused 9) (meant (solved n a b))
   pub matrix : a′ ≡ matrixAfter n a b
   pub right : b′ ≡ rightAfter n a b
+
+-- no second answer, and no other content of a lent place, meets the promise
+pub only-one : {n : ℕ} {a b a₁ b₁ a₂ b₂ : List Float} {r₁ r₂ : Elimination} → Solves n a b a₁ b₁ r₁ → Solves n a b a₂ b₂ r₂ → (r₁ ≡ r₂) × (a₁ ≡ a₂) × (b₁ ≡ b₂)
+only-one p q = (only-answer (p .answer) (q .answer), only-answer (p .matrix) (q .matrix), only-answer (p .right) (q .right))

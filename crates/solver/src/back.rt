@@ -1,6 +1,5 @@
 // From the last row to the first: the answer takes the right side's place.
 ghost use mathlib.Core.Path.{_≡_};
-ghost use mathlib.Core.List.{List};
 ghost use Prim.Native.Nat.{_+_, _*_, _≤_, _<_};
 ghost use lib.Ieee.Scale.{finite};
 ghost use lib.ListN.{length};

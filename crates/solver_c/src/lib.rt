@@ -1,7 +1,8 @@
-// The calls of `solver` for programs in C and in Rust.
+// The calls on bare matrices and slices for programs in C and in Rust.
 ghost use mathlib.Core.Path.{_≡_};
 ghost use Rattle.solver.specs.Sums.{maxAbsOf, norm2Of};
-ghost use Rattle.solver_c.specs.Code.{SolvesC, codeOf};
+ghost use Rattle.solver_c.specs.Code.{SolvesC, SpansC, codeOf, rankCode};
+use nullspace::NullSpace;
 use solver::Elimination;
 
 // `solver::solve_dense`: 0 solved, 255 no answer, 3 and 9 refused.
@@ -35,4 +36,28 @@ pub extern "C" fn solver_norm2(v: &[f64]) -> f64
     ensures { λ r. ⌜ r ≡ norm2Of (now (v .entry)) ⌝ }
 {
     solver::norm2(v)
+}
+
+// `nullspace::null_space`: the rank, or 256 and the number of a refusal.
+#[no_mangle]
+pub extern "C" fn solver_null_space(
+    m: &[f64],
+    rows: usize,
+    n: usize,
+    work: &mut [f64],
+    out: &mut [f64],
+) -> usize
+    ensures { λ r. ⌜ SpansC rows n (now (m .entry)) (now (work .entry)) (now (out .entry)) (now (work .exit)) (now (out .exit)) r ⌝ }
+{
+    rank_code(nullspace::null_space(m, rows, n, work, out))
+}
+
+fn rank_code(e: NullSpace) -> usize
+    ensures { λ r. ⌜ r ≡ rankCode e ⌝ }
+{
+    match e {
+        NullSpace::Rank(r) => r,
+        NullSpace::TooMany => 259,
+        NullSpace::TooShort => 265,
+    }
 }

@@ -10,16 +10,16 @@ use Rattle.floats.proofs.clear.Statement.{statement}
 use Rattle.floats.proofs.clear.Tie as tie
 
 abbrev Inv-loop : tie.InvT-loop
-Inv-loop s₀ i₀ i-end s i = (i-end ≡ length s₀) × (i ≤ i-end) × (length s ≡ length s₀) × (s ≡ replicate i zero⁺ ++ drop i s₀)
+Inv-loop s₀ i₀ i-end s i = (s ≡ replicate i zero⁺ ++ drop i s₀) × (i-end ≡ length s₀) × (i ≤ i-end) × (length s ≡ length s₀)
 
 abbrev μ-loop : tie.MeasureT-loop
 μ-loop s₀ i₀ i-end s i = i-end - i
 
 loop-holds : tie.Need-loop-holds Inv-loop μ-loop
-loop-holds c = (refl, search needs, refl, refl)
+loop-holds c = (refl, refl, search needs, refl)
 
 loop-again : tie.Need-loop-again Inv-loop μ-loop
-loop-again c = (search needs, search needs, search needs, search (fill-next, needs))
+loop-again c = (search (fill-next, needs), search needs, search needs, search needs)
 
 returns : tie.Need-returns Inv-loop μ-loop
 returns c = search (fill-done, needs)

@@ -1,5 +1,5 @@
 -- `loops::holds` meets its contract: with no column every table fits, and otherwise the quotient says how many rows do. Assumes nothing.
-use Prim.Native.Nat.{ℕ, zero, _*_, _/_, _≤_, _<_}
+use Prim.Native.Nat.{ℕ, zero, _*_, _/_, _<_}
 use mathlib.Core.Bool.{Bool, true, false}
 use mathlib.Core.Path.{_≡_, refl, sym}
 use native.Mathlib.Nat.{le-div-iff-mul-le, div-lt-iff-lt-mul, mul-zero, pos-of-ne-zero}

@@ -1,3 +1,4 @@
+-- Each way out is a case of `checked`; where the call is carried out, the heads of the two slices came back and were cleared. Assumes nothing.
 use native.Mathlib.Nat.{mul-le-mul-right}
 use lib.Seq.{length-take-le, take-at}
 use mir.Syntax.{w64}

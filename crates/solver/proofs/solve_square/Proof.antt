@@ -1,3 +1,4 @@
+-- Elimination stops the whole, or its system is solved from the last row up and looked through. Assumes nothing.
 use Prim.Native.Nat.{ℕ}
 use mathlib.Core.Bool.{Bool, true, false, cond}
 use mathlib.Core.List.{List}

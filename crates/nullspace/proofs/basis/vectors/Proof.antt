@@ -1,3 +1,4 @@
+-- The vectors are written one after another, and what lies past them stays. Assumes nothing.
 use Prim.Native.Nat.{ℕ, _+_, _-_, _*_, _≤_}
 use mathlib.Core.List.{List, _++_}
 use mathlib.Core.Path.{_≡_, refl, sym, ap, _∙_}
@@ -27,13 +28,9 @@ module _ (n rank j : ℕ) (v out₀ out y : List Float) (h : rank ≤ j) (fit : 
   abbrev built : List Float
   built = take ((j - rank) * n) out ++ (y ++ drop ((j - rank) * n + n - (j - rank) * n) (drop ((j - rank) * n) out))
 
-  taken : y ≡ basisVector (length (take ((j - rank) * n + n - (j - rank) * n) (drop ((j - rank) * n) out))) rank v j
-      → take ((j + 1 - rank) * n) built ≡ addVector n rank v j (take ((j - rank) * n) out)
+  taken : y ≡ basisVector n rank v j → take ((j + 1 - rank) * n) built ≡ addVector n rank v j (take ((j - rank) * n) out)
   unfolding addVector
-  taken e =
-      rw (one-more j rank n h)
-      (take-built ((j - rank) * n) n out y fit size
-      ∙ ap (λ y. take ((j - rank) * n) out ++ y) (e ∙ rw (part-length ((j - rank) * n) n out fit)))
+  taken e = rw (one-more j rank n h) (take-built ((j - rank) * n) n out y fit size ∙ ap (λ y. take ((j - rank) * n) out ++ y) e)
 
   left : drop ((j - rank) * n) out ≡ drop ((j - rank) * n) out₀ → drop ((j + 1 - rank) * n) built ≡ drop ((j + 1 - rank) * n) out₀
   left e =
@@ -80,7 +77,7 @@ part-vector-end : tie.Need-part-vector-end Inv-loop μ-loop
 part-vector-end c = omega (arith, cell-row (c .before .before .before .before .args .n) (c .before .before .before .before .args .n) (c .before .loop .j - c .before .before .before .before .args .rank) (c .before .before .before .before .args .n * c .before .before .before .before .args .n) (search needs) (le-refl (c .before .before .before .before .args .n * c .before .before .before .before .args .n)))
 
 vector-requires : tie.Need-vector-requires Inv-loop μ-loop
-vector-requires c κs = let e = part-length ((c .before .before .loop .j - c .before .before .before .before .before .args .rank) * c .before .before .before .before .before .args .n) (c .before .before .before .before .before .args .n) (c .before .before .loop .out) (omega (arith, cell-row (c .before .before .before .before .before .args .n) (c .before .before .before .before .before .args .n) (c .before .before .loop .j - c .before .before .before .before .before .args .rank) (c .before .before .before .before .before .args .n * c .before .before .before .before .before .args .n) (search needs) (le-refl (c .before .before .before .before .before .args .n * c .before .before .before .before .before .args .n)))) in (rw e (search needs), rw e (search needs))
+vector-requires c κs = ((part-length ((c .before .before .loop .j - c .before .before .before .before .before .args .rank) * c .before .before .before .before .before .args .n) (c .before .before .before .before .before .args .n) (c .before .before .loop .out) (omega (arith, cell-row (c .before .before .before .before .before .args .n) (c .before .before .before .before .before .args .n) (c .before .before .loop .j - c .before .before .before .before .before .args .rank) (c .before .before .before .before .before .args .n * c .before .before .before .before .before .args .n) (search needs) (le-refl (c .before .before .before .before .before .args .n * c .before .before .before .before .before .args .n)))), search needs), search needs)
 
 loop-again : tie.Need-loop-again Inv-loop μ-loop
 loop-again c = ((search needs, search needs), search needs, upTo-next _ _ _ _ _ _ (c .before .before .before .before .loop-test .taken) (taken (c .before .before .before .before .before .before .before .before .args .n) (c .before .before .before .before .before .before .before .before .args .rank) (c .before .before .before .before .before .loop .j) (c .before .before .before .before .before .before .before .before .args .v .now) (c .before .before .before .before .before .before .before .before .args .out .now) (c .before .before .before .before .before .loop .out) (c .before .before .vector .last .0) (c .before .before .before .before .before .loop .inv .0 .0) (omega (arith, cell-row (c .before .before .before .before .before .before .before .before .args .n) (c .before .before .before .before .before .before .before .before .args .n) (c .before .before .before .before .before .loop .j - c .before .before .before .before .before .before .before .before .args .rank) (c .before .before .before .before .before .before .before .before .args .n * c .before .before .before .before .before .before .before .before .args .n) (search needs) (le-refl (c .before .before .before .before .before .before .before .before .args .n * c .before .before .before .before .before .before .before .before .args .n)))) (c .before .before .vector .kept .0) (c .before .before .vector .ensures)) (c .before .before .before .before .before .loop .inv .2), left (c .before .before .before .before .before .before .before .before .args .n) (c .before .before .before .before .before .before .before .before .args .rank) (c .before .before .before .before .before .loop .j) (c .before .before .before .before .before .before .before .before .args .v .now) (c .before .before .before .before .before .before .before .before .args .out .now) (c .before .before .before .before .before .loop .out) (c .before .before .vector .last .0) (c .before .before .before .before .before .loop .inv .0 .0) (omega (arith, cell-row (c .before .before .before .before .before .before .before .before .args .n) (c .before .before .before .before .before .before .before .before .args .n) (c .before .before .before .before .before .loop .j - c .before .before .before .before .before .before .before .before .args .rank) (c .before .before .before .before .before .before .before .before .args .n * c .before .before .before .before .before .before .before .before .args .n) (search needs) (le-refl (c .before .before .before .before .before .before .before .before .args .n * c .before .before .before .before .before .before .before .before .args .n)))) (c .before .before .vector .kept .0) (c .before .before .before .before .before .loop .inv .3))

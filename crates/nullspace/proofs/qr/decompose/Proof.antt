@@ -1,3 +1,4 @@
+-- Row k on is lent to the turn of k; what lies before it, the reflectors, stays. Assumes nothing.
 use Prim.Native.Nat.{ℕ, _+_, _-_, _*_, _≤_, min}
 use mathlib.Core.Bool.{true, false}
 use mathlib.Core.List.{List, _++_}

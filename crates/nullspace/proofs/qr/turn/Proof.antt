@@ -1,3 +1,4 @@
+-- A turn ends at the norm, or at `vv`, or goes on; in each case by the longest column that was found. Assumes nothing.
 use Prim.Native.Nat.{ℕ}
 use mathlib.Core.Bool.{Bool, true, false, cond, false≢true}
 use mathlib.Core.List.{List}

@@ -8,17 +8,17 @@ use Rattle.nullspace.proofs.reflect.less_by.Statement.{statement}
 use Rattle.nullspace.proofs.reflect.less_by.Tie as tie
 
 abbrev Inv-loop : tie.InvT-loop
-Inv-loop v f c₀ i₀ i-end c i = (i-end ≡ length v) × (i ≤ i-end) × (length c ≡ length c₀) × (upTo (length v) i (lessBy v f) c ≡ upTo (length v) 0 (lessBy v f) c₀)
+Inv-loop v n f c₀ i₀ c i = (i ≤ n) × (length c ≡ length c₀) × (upTo n i (lessBy v f) c ≡ upTo n 0 (lessBy v f) c₀)
 
 abbrev μ-loop : tie.MeasureT-loop
-μ-loop v f c₀ i₀ i-end c i = i-end - i
+μ-loop v n f c₀ i₀ c i = n - i
 
 loop-holds : tie.Need-loop-holds Inv-loop μ-loop
-loop-holds c = (refl, search needs, refl, refl)
+loop-holds c = (search needs, refl, refl)
 
 loop-again : tie.Need-loop-again Inv-loop μ-loop
 unfolding lessBy
-loop-again c = (search needs, search needs, search needs, search (upTo-next, needs))
+loop-again c = (search needs, search needs, search (upTo-next, needs))
 
 returns : tie.Need-returns Inv-loop μ-loop
 returns c = search (upTo-done, needs)

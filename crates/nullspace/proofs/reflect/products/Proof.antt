@@ -1,6 +1,6 @@
 use Prim.Native.Nat.{_≤_, _-_}
 use mathlib.Core.Path.{_≡_, refl}
-use lib.ListN.{length, drop}
+use lib.ListN.{drop}
 use borrow.Author.Needs.{needs}
 use Rattle.loops.specs.Turns.{upTo, upTo-next, upTo-done, fold, fold-next, fold-done}
 use lib.Ieee.{nan, neg, ofBits}
@@ -10,21 +10,21 @@ use Rattle.nullspace.proofs.reflect.products.Statement.{statement}
 use Rattle.nullspace.proofs.reflect.products.Tie as tie
 
 abbrev Inv-loop : tie.InvT-loop
-Inv-loop v c dot₀ norm₀ i₀ i-end dot norm i = (i-end ≡ length v) × (i ≤ i-end) × (upTo (length v) i (addProduct v c) dot ≡ dotOf (length v) v c) × (fold addSquare norm (drop i v) ≡ norm2Of v)
+Inv-loop v n c dot₀ norm₀ i₀ dot norm i = (i ≤ n) × (upTo n i (addProduct v c) dot ≡ dotOf n v c) × (fold addSquare norm (drop i v) ≡ norm2Of v)
 
 abbrev μ-loop : tie.MeasureT-loop
-μ-loop v c dot₀ norm₀ i₀ i-end dot norm i = i-end - i
+μ-loop v n c dot₀ norm₀ i₀ dot norm i = n - i
 
 loop-holds : tie.Need-loop-holds Inv-loop μ-loop
 unfolding dotOf norm2Of neg ofBits
-loop-holds c = (refl, search needs, refl, refl)
+loop-holds c = (search needs, refl, refl)
 
 loop-again : tie.Need-loop-again Inv-loop μ-loop
 unfolding addProduct addSquare
-loop-again c = (search needs, search needs, search (upTo-next, needs), search (fold-next nan addSquare, needs))
+loop-again c = (search needs, search (upTo-next, needs), search (fold-next nan addSquare, needs))
 
 returns : tie.Need-returns Inv-loop μ-loop
-returns c = (search (upTo-done, needs), search (fold-done, needs))
+returns c = (search (upTo-done, needs), fold-done addSquare (c .before .before .args .v .now) (c .before .loop .i) _ _ (search needs) (c .before .loop .inv .2))
 
 pub products-spec : {M : Type 1} → statement M
 products-spec =

@@ -1,3 +1,4 @@
+-- The rows are written one after another. Assumes nothing.
 use native.Mathlib.Nat.{zero-mul, le-refl, mul-le-mul-right}
 use Rattle.nullspace.proofs.Built.{one-row, part-length, take-built}
 use Prim.Native.Nat.{ℕ, _+_, _-_, _*_, _≤_}

@@ -1,3 +1,4 @@
+-- Each turn is one call, whose contract is the definition's step. Assumes nothing.
 use Prim.Native.Nat.{_≤_, _<_, _-_}
 use mathlib.Core.Path.{_≡_, refl}
 use lib.ListN.{length}

@@ -1,3 +1,4 @@
+-- The part from the pivot on is lent to the update: what it does to the part is what the definition does to the whole. Assumes nothing.
 use Prim.Native.Nat.{ℕ, _+_, _-_, _*_, _≤_, _<_}
 use mathlib.Core.List.{List, _++_}
 use mathlib.Core.Path.{_≡_, sym, ap, _∙_}

@@ -1,3 +1,4 @@
+-- The pivot is too small, or the two rows change places and the rows below are cleared. Assumes nothing.
 use Prim.Native.Nat.{ℕ, _+_, _*_}
 use mathlib.Core.Bool.{true, false}
 use mathlib.Core.List.{List}

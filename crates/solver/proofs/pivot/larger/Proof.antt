@@ -1,3 +1,4 @@
+-- The larger one is never a NaN, so no test for one is needed at the next turn. Assumes nothing.
 use mathlib.Core.Bool.{true, false, true≢false}
 use mathlib.Core.Path.{_≡_, refl, sym, _∙_}
 use lib.Ieee.{Float, nan, inf, fin, lt, isNan}
