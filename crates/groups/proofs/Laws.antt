@@ -1,22 +1,15 @@
 -- What the turns of the loops come to, over plain lists and numbers. Assumes nothing.
+use Prim.Native.Nat.{ℕ, zero, suc, _+_, _≤_, _<_, max, min}
 use mathlib.Core.Bool.{Bool, true, false, not, cond}
 use mathlib.Core.List.{List, [], _∷_, map}
 use mathlib.Core.Logic.{_≢_}
 use mathlib.Core.Path.{_≡_, refl, sym, ap, _∙_}
-use Prim.Native.Nat.{ℕ, zero, suc, _+_, _≤_, _<_, max, min}
 use native.Mathlib.Nat.{not-suc-le-zero}
 use native.Mathlib.Omega.{arith}
 use borrow.Author.Tests.{eq-eqb, ne-eqb, not-true, not-false}
 use lib.Dec.{eqb}
 use lib.ListN.{length, getD, set, take, drop, length-take}
 use lib.Seq.{getD-take}
-use Rattle.groups.proofs.Forest.{getD-any, Kept, root-next, root-done, root-kept, root-is, rt-low, join-falls, halved-falls, halved-up}
-use Rattle.groups.proofs.Keeps.{upTo-keeps}
-use Rattle.groups.specs.Listed.{pointOf, enteredOf, numberedOf, groupOf, listEquation, listEquations, listPoint, listPoints, groupsOf}
-use Rattle.groups.specs.Parents.{up, Falls, Gives, halved, rootOf, joinTo, joinAll, joined, alone}
-use Rattle.groups.specs.Touches.{number, numberAt, numbersOf, touchedIn, held}
-use Rattle.groups.specs.declared.Listing.{Listing}
-use Rattle.groups.specs.Tied.{tieAll, tiedOf}
 use Rattle.loops.specs.Turns.{upTo, upTo-next, fold}
 use Rattle.sketch.specs.Involved.{involvedOf, touchedOf}
 use Rattle.sketch.specs.declared.Active.{Active}
@@ -24,6 +17,13 @@ use Rattle.sketch.specs.declared.Equation.{Equation}
 use Rattle.sketch.specs.declared.Line.{Line}
 use Rattle.sketch.specs.declared.Rad.{Rad}
 use Rattle.sketch.specs.declared.Touched.{Touched}
+use Rattle.groups.specs.Listed.{pointOf, enteredOf, numberedOf, groupOf, listEquation, listEquations, listPoint, listPoints, groupsOf}
+use Rattle.groups.specs.Parents.{up, Falls, Gives, halved, rootOf, joinTo, joinAll, joined, alone}
+use Rattle.groups.specs.Tied.{tieAll, tiedOf}
+use Rattle.groups.specs.Touches.{number, numberAt, numbersOf, touchedIn, held}
+use Rattle.groups.specs.declared.Listing.{Listing}
+use Rattle.groups.proofs.Forest.{getD-any, root-next, root-done, root-kept, root-is, rt-low, join-falls, halved-falls, halved-up}
+use Rattle.groups.proofs.Keeps.{upTo-keeps}
 
 -- a turn of `root`: u and a are x's parent, b is a's, v is x's parent after the store
 module _ (ps ps′ : List ℕ) (x u a b v : ℕ) (f : Falls ps) (n : u ≢ x) (e : u ≡ up ps x) (i : a ≡ up ps x) (j : b ≡ up ps a)

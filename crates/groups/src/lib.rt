@@ -16,8 +16,8 @@ pub struct Grouping {
 }
 
 // Grouping while their points are being listed: beside them, for each root, its group's number.
-pub struct Listing {
-    pub index: [usize; 40],
-    pub of_point: [usize; 40],
-    pub count: usize,
+pub(crate) struct Listing {
+    pub(crate) index: [usize; 40],
+    pub(crate) of_point: [usize; 40],
+    pub(crate) count: usize,
 }

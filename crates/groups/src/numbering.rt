@@ -1,8 +1,8 @@
 // From the roots to the groups: each root gets a number when the first of its points comes.
 ghost use mathlib.Core.Path.{_≡_};
 ghost use Prim.Native.Nat.{_≤_, _<_};
-ghost use Rattle.groups.specs.Listed.{numberedOf, enteredOf, listPoint, listPoints, nothing, pointOf, groupOf};
-ghost use Rattle.groups.specs.Parents.{Falls};
+ghost use Rattle.groups.specs.Listed.{numberedOf, enteredOf, listPoints, nothing, pointOf, groupOf};
+ghost use Rattle.groups.specs.Parents.{Falls, Leaves};
 ghost use Rattle.groups.specs.Touches.{numbersOf};
 use crate::Listing;
 use crate::parents::root;
@@ -35,7 +35,7 @@ fn entered(s: Listing, r: usize, q: usize) -> Listing
 // Point q is listed if an equation ties it.
 fn list_point(p: &mut [usize], tied: bool, s: Listing, q: usize) -> Listing
     requires { ⌜ (Falls (now p)) × (q < 40) × (s .count ≤ q) ⌝ }
-    ensures { λ n. ⌜ (n ≡ pointOf tied q (record { parents = now (p .entry); answer = s }) .answer) × (now (p .exit) ≡ pointOf tied q (record { parents = now (p .entry); answer = s }) .parents) ⌝ }
+    ensures { λ n. ⌜ Leaves (pointOf tied q (record { parents = now (p .entry); answer = s })) (now (p .exit)) n ⌝ }
 {
     if !tied {
         return s;
@@ -56,7 +56,7 @@ fn none_listed() -> Listing
 
 pub(crate) fn list_points(p: &mut [usize], tied: [bool; 40]) -> Listing
     requires { ⌜ Falls (now p) ⌝ }
-    ensures { λ n. ⌜ (n ≡ listPoints tied (now (p .entry)) .answer) × (now (p .exit) ≡ listPoints tied (now (p .entry)) .parents) ⌝ }
+    ensures { λ n. ⌜ Leaves (listPoints tied (now (p .entry))) (now (p .exit)) n ⌝ }
 {
     let mut s = none_listed();
     for q in 0..40 {
@@ -68,7 +68,7 @@ pub(crate) fn list_points(p: &mut [usize], tied: [bool; 40]) -> Listing
 // The group of an equation is its first point's.
 pub(crate) fn group_of(p: &mut [usize], index: [usize; 40], t: Touched) -> usize
     requires { ⌜ Falls (now p) ⌝ }
-    ensures { λ g. ⌜ (g ≡ groupOf index (numbersOf t) (now (p .entry)) .answer) × (now (p .exit) ≡ groupOf index (numbersOf t) (now (p .entry)) .parents) ⌝ }
+    ensures { λ g. ⌜ Leaves (groupOf index (numbersOf t) (now (p .entry))) (now (p .exit)) g ⌝ }
 {
     if t.count == 0 {
         return 40;
