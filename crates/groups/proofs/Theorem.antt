@@ -3,7 +3,7 @@
 use Prim.Native.Nat.{ℕ, zero, suc, _≤_, _<_}
 use mathlib.Core.Bool.{Bool, true, false, not, cond, _&&_}
 use mathlib.Core.List.{List, [], _∷_, _++_, map, List·Memᴰ, List·Memᴰ·not-nil, List·Memᴰ·cases-cons}
-use mathlib.Core.Logic.{_⊎_, inl, inr}
+use mathlib.Core.Logic.{_⊎_, inl, inr, _↔_}
 use mathlib.Core.Path.{_≡_, refl, sym, _∙_, subst}
 use native.Mathlib.Decide.{decLt}
 use native.Mathlib.Nat.{not-suc-le-zero, le-of-suc-le-suc}
@@ -27,10 +27,12 @@ use Rattle.sketch.specs.declared.Line.{Line}
 use Rattle.sketch.specs.declared.LineNo.{LineNo}
 use Rattle.sketch.specs.declared.PointNo.{PointNo}
 use Rattle.sketch.specs.declared.Rad.{Rad}
-use Rattle.groups.specs.Chains.{Touches, GroupsAreChains}
+use Rattle.groups.specs.Chains.{Touches, Tied, GroupsAreChains}
 use Rattle.groups.specs.Listed.{groupsOf}
+use Rattle.groups.specs.Tied.{tiedOf}
 use Rattle.groups.specs.Touches.{number, held, touchedIn, touchedBy}
 use Rattle.groups.proofs.Exactly.{chains}
+use Rattle.groups.proofs.Ties.{tied-all, tied-only}
 
 -- every one of a row of tests
 both : (a b : Bool) → a && b ≡ true → (a ≡ true) × (b ≡ true)
@@ -193,3 +195,10 @@ module _ (b : Build) (passes : checkOf b ≡ Passes) where
   groups-are-chains =
       chains (touchedBy b) (length (equationsOf b)) (omega (arith, length-take (b .«equation_count») (b .equations), counts .2)) inside
       (past (equationsOf b) (b .lines))
+
+  -- `tied_points` tells exactly the points that an equation touches
+  pub tied-exactly : (p : ℕ) → getD (tiedOf (touchedBy b) (length (equationsOf b))) p false ≡ true ↔ Tied (touchedBy b) p
+  tied-exactly p = (
+    tied-only (touchedBy b) (length (equationsOf b)) inside p,
+    λ m. tied-all (touchedBy b) (length (equationsOf b)) inside (m .0) p (past (equationsOf b) (b .lines) (m .0) p (m .1)) (m .1),
+  )

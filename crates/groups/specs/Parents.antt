@@ -1,9 +1,9 @@
 -- equations.rs, `groups`: its `parent`, its `root`, and the joining of each equation's points. The lists here are the numbers
 -- of the points that an equation touches, `t k` those of equation k.
-use mathlib.Core.Path.{_≡_}
 use Prim.Native.Nat.{ℕ, zero, suc, _≤_, max, min}
 use mathlib.Core.Bool.{cond}
 use mathlib.Core.List.{List}
+use mathlib.Core.Path.{_≡_}
 use lib.Dec.{eqb}
 use lib.ListN.{getD, set, drop, replicate}
 use Rattle.loops.specs.Turns.{upTo, fold}

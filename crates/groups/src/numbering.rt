@@ -5,6 +5,7 @@ ghost use Rattle.groups.specs.Listed.{numberedOf, enteredOf, listPoints,
 ghost use Rattle.groups.specs.Parents.{Falls, Leaves};
 ghost use Rattle.groups.specs.Touches.{numbersOf};
 use crate::Listing;
+use crate::NO_GROUP;
 use crate::parents::root;
 use sketch::Touched;
 
@@ -13,7 +14,7 @@ fn numbered(s: Listing, r: usize) -> Listing
     requires { ⌜ (r < 40) × (s .count < 40) ⌝ }
     ensures { λ n. ⌜ n ≡ numberedOf r s ⌝ }
 {
-    if s.index[r] != 40 {
+    if s.index[r] != NO_GROUP {
         return s;
     }
     let mut n = s;
@@ -48,12 +49,13 @@ fn none_listed() -> Listing
     ensures { λ r. ⌜ r ≡ nothing ⌝ }
 {
     Listing {
-        index: [40; 40],
-        of_point: [40; 40],
+        index: [NO_GROUP; 40],
+        of_point: [NO_GROUP; 40],
         count: 0,
     }
 }
 
+// Every tied point, rising, so that the groups are numbered by their lowest points.
 pub(crate) fn list_points(p: &mut [usize], tied: [bool; 40]) -> Listing
     requires { ⌜ Falls (now p) ⌝ }
     ensures { λ n. ⌜ Leaves (listPoints tied (now (p .entry))) (now (p .exit)) n ⌝ }
@@ -71,9 +73,9 @@ pub(crate) fn group_of(p: &mut [usize], index: [usize; 40], t: Touched) -> usize
     ensures { λ g. ⌜ Leaves (groupOf index (numbersOf t) (now (p .entry))) (now (p .exit)) g ⌝ }
 {
     if t.count == 0 {
-        return 40;
+        return NO_GROUP;
     }
     let owner = t.points[0];
     let r = root(p, owner.0);
-    if r < 40 { index[r] } else { 40 }
+    if r < 40 { index[r] } else { NO_GROUP }
 }

@@ -53,7 +53,9 @@ fn join(p: &mut [usize], x: usize, y: usize)
 {
     let a = root(p, x);
     let b = root(p, y);
-    put(p, larger(a, b), smaller(a, b));
+    let under = larger(a, b);
+    let over = smaller(a, b);
+    put(p, under, over);
 }
 
 // Each point of an equation joins its first.

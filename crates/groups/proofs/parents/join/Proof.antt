@@ -15,8 +15,8 @@ returns c =
     let a = c .before .before .before .before .before .before .before .before .before .before .before .before .before .before .before .args in
     let root = c .before .before .before .before .before .before .before .before .before .before .before .before .root in
     let root2 = c .before .before .before .before .before .before .before .before .root2 in
-    let larger = c .before .before .before .before .larger in
-    let smaller = c .before .before .before .smaller in
+    let larger = c .before .before .before .before .before .larger in
+    let smaller = c .before .before .before .before .smaller in
     let put = c .before .before .put in
     join-is (a .p .now) (root .last .0) (root2 .last .0) (put .last .0) (a .x) (a .y) (root .result) (root2 .result) (larger .result)
     (smaller .result) (put .ensures) (larger .ensures) (smaller .ensures) (root2 .ensures .0) (root2 .ensures .1) (root .ensures .0)
