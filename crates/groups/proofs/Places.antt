@@ -59,10 +59,6 @@ rises i (x ∷ l) j = go (eqb x j) (rises (suc i) l j)
     go false r = r
 
 module _ (l : List ℕ) (j p : ℕ) where
-  pub place-inside : List·Memᴰ p (placesFrom 0 l j) → p < length l
-  unfolding Held
-  place-inside m = let h = held 0 l j p m in omega (arith, h .1, h .2)
-
   pub place-holds : List·Memᴰ p (placesFrom 0 l j) → getD l p 40 ≡ j
   unfolding Held
   place-holds m =

@@ -37,12 +37,21 @@ loop-again c =
     let a = c .before .before .before .before .before .before .before .before .args in
     let l = c .before .before .before .before .before .loop in
     let list-point = c .before .before .list-point in
-    let g : Gives Listing = record { parents = l .p; answer = l .s } in let b = getD (a .t2) (l .q) false in (search needs, point-falls b (l .q) g (list-point .last .0) (l .inv .1) (list-point .ensures .1), search needs, omega (arith, point-count b (l .q) g (list-point .result) (list-point .ensures .0)), upTo-next (listPoint (a .t2)) 40 (l .q) g _ _ (search needs) (both (pointOf b (l .q) g) _ _ (list-point .ensures .1) (list-point .ensures .0)) (l .inv .4))
+    let g : Gives Listing = record { parents = l .p; answer = l .s } in
+    let b = getD (a .t2) (l .q) false in (
+      search needs,
+      point-falls b (l .q) g (list-point .last .0) (l .inv .1) (list-point .ensures .1),
+      search needs,
+      omega (arith, point-count b (l .q) g (list-point .result) (list-point .ensures .0)),
+      upTo-next (listPoint (a .t2)) 40 (l .q) g _ _ (search needs) (both (pointOf b (l .q) g) _ _ (list-point .ensures .1) (list-point .ensures .0))
+          (l .inv .4),
+    )
 
 returns : tie.Need-returns Inv-loop μ-loop
 returns c =
     let l = c .before .loop in
-    let e = upTo-done (listPoint (c .before .before .before .before .args .t2)) 40 (l .q) (record { parents = l .p; answer = l .s }) _ (search needs) (l .inv .4) in (ap (λ g. g .answer) e, ap (λ g. g .parents) e)
+    let e = upTo-done (listPoint (c .before .before .before .before .args .t2)) 40 (l .q) (record { parents = l .p; answer = l .s }) _ (search needs) (l .inv .4) in
+    (ap (λ g. g .answer) e, ap (λ g. g .parents) e)
 
 pub list-points-spec : {M : Type 1} → statement M
 list-points-spec =

@@ -3,8 +3,7 @@ use mathlib.Core.Path.{_≡_, refl}
 use borrow.Author.Needs.{needs}
 use lib.ListN.{length}
 use Rattle.groups.specs.Parents.{up, Falls, rootOf}
-use Rattle.groups.proofs.Laws.{ends-answer, ends-parents}
-use Rattle.groups.proofs.Laws.{turn-falls, turn-less, turn-root}
+use Rattle.groups.proofs.Laws.{ends-answer, ends-parents, turn-falls, turn-less, turn-root}
 use Rattle.groups.proofs.parents.root.Statement.{statement}
 use Rattle.groups.proofs.parents.root.Tie as tie
 

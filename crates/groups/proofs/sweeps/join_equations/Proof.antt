@@ -16,7 +16,8 @@ Inv-loop p₀ n lines equations m k₀ p k =
     (length p ≡ length p₀)
     × (Falls p)
     × (k ≤ m)
-    × (upTo (length (take n equations)) k (λ k. joinAll (touchedIn (take n equations) lines k)) p ≡ joined (touchedIn (take n equations) lines) (length (take n equations)) p₀)
+    ×
+    (upTo (length (take n equations)) k (λ k. joinAll (touchedIn (take n equations) lines k)) p ≡ joined (touchedIn (take n equations) lines) (length (take n equations)) p₀)
 
 abbrev μ-loop : tie.MeasureT-loop
 μ-loop p₀ n lines equations m k₀ p k = m - k

@@ -18,7 +18,8 @@ Inv-loop p₀ index n lines equations m of₀ k₀ p of k =
     × (Falls p)
     × (k ≤ m)
     × (length of ≡ 40)
-    × (upTo (length (take n equations)) k (listEquation index (touchedIn (take n equations) lines)) (record { parents = p; answer = of }) ≡ listEquations index (touchedIn (take n equations) lines) (length (take n equations)) p₀)
+    ×
+    (upTo (length (take n equations)) k (listEquation index (touchedIn (take n equations) lines)) (record { parents = p; answer = of }) ≡ listEquations index (touchedIn (take n equations) lines) (length (take n equations)) p₀)
 
 abbrev μ-loop : tie.MeasureT-loop
 μ-loop p₀ index n lines equations m of₀ k₀ p of k = m - k

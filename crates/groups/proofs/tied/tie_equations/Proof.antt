@@ -15,7 +15,8 @@ abbrev Inv-loop : tie.InvT-loop
 Inv-loop s₀ n lines equations m k₀ s k =
     (length s ≡ length s₀)
     × (k ≤ m)
-    × (upTo (length (take n equations)) k (λ k. tieAll (touchedIn (take n equations) lines k)) s ≡ tiedIn (touchedIn (take n equations) lines) (length (take n equations)) s₀)
+    ×
+    (upTo (length (take n equations)) k (λ k. tieAll (touchedIn (take n equations) lines k)) s ≡ tiedIn (touchedIn (take n equations) lines) (length (take n equations)) s₀)
 
 abbrev μ-loop : tie.MeasureT-loop
 μ-loop s₀ n lines equations m k₀ s k = m - k
