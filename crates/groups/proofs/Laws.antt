@@ -1,22 +1,15 @@
 -- What the turns of the loops come to, over plain lists and numbers. Assumes nothing.
+use Prim.Native.Nat.{ℕ, zero, suc, _+_, _≤_, _<_, max, min}
 use mathlib.Core.Bool.{Bool, true, false, not, cond}
 use mathlib.Core.List.{List, [], _∷_, map}
 use mathlib.Core.Logic.{_≢_}
 use mathlib.Core.Path.{_≡_, refl, sym, ap, _∙_}
-use Prim.Native.Nat.{ℕ, zero, suc, _+_, _≤_, _<_, max, min}
 use native.Mathlib.Nat.{not-suc-le-zero}
 use native.Mathlib.Omega.{arith}
 use borrow.Author.Tests.{eq-eqb, ne-eqb, not-true, not-false}
 use lib.Dec.{eqb}
 use lib.ListN.{length, getD, set, take, drop, length-take}
 use lib.Seq.{getD-take}
-use Rattle.groups.proofs.Forest.{getD-any, Kept, root-next, root-done, root-kept, root-is, rt-low, join-falls, halved-falls, halved-up}
-use Rattle.groups.proofs.Keeps.{upTo-keeps}
-use Rattle.groups.specs.Listed.{pointOf, enteredOf, numberedOf, groupOf, listEquation, listEquations, listPoint, listPoints, groupsOf}
-use Rattle.groups.specs.Parents.{up, Falls, Gives, halved, rootOf, joinTo, joinAll, joined, alone}
-use Rattle.groups.specs.Touches.{number, numberAt, numbersOf, touchedIn, held}
-use Rattle.groups.specs.declared.Listing.{Listing}
-use Rattle.groups.specs.Tied.{tieAll, tiedOf}
 use Rattle.loops.specs.Turns.{upTo, upTo-next, fold}
 use Rattle.sketch.specs.Involved.{involvedOf, touchedOf}
 use Rattle.sketch.specs.declared.Active.{Active}
@@ -24,6 +17,13 @@ use Rattle.sketch.specs.declared.Equation.{Equation}
 use Rattle.sketch.specs.declared.Line.{Line}
 use Rattle.sketch.specs.declared.Rad.{Rad}
 use Rattle.sketch.specs.declared.Touched.{Touched}
+use Rattle.groups.specs.Listed.{pointOf, enteredOf, numberedOf, groupOf, listEquation, listEquations, listPoint, listPoints, groupsOf}
+use Rattle.groups.specs.Parents.{up, Falls, Gives, halved, rootOf, joinTo, joinAll, joined, alone}
+use Rattle.groups.specs.Tied.{tieAll, tiedOf}
+use Rattle.groups.specs.Touches.{number, numberAt, numbersOf, touchedIn, held}
+use Rattle.groups.specs.declared.Listing.{Listing}
+use Rattle.groups.proofs.Forest.{getD-any, root-next, root-done, root-kept, root-is, rt-low, join-falls, halved-falls, halved-up}
+use Rattle.groups.proofs.Keeps.{upTo-keeps}
 
 -- a turn of `root`: u and a are x's parent, b is a's, v is x's parent after the store
 module _ (ps ps′ : List ℕ) (x u a b v : ℕ) (f : Falls ps) (n : u ≢ x) (e : u ≡ up ps x) (i : a ≡ up ps x) (j : b ≡ up ps a)
@@ -172,21 +172,28 @@ module _ (q : ℕ) (g : Gives Listing) where
   unfolding pointOf
   point-parents b ps t e = rw (not-false b t, e)
 
-pub group-none : (index pts ps : List ℕ) (n : ℕ) → n ≡ length pts → n ≡ 0 → groupOf index pts ps ≡ record { parents = ps; answer = 40 }
+group-none : (index pts ps : List ℕ) (n : ℕ) → n ≡ length pts → n ≡ 0 → groupOf index pts ps ≡ record { parents = ps; answer = 40 }
 unfolding groupOf
 group-none index [] ps n e h = refl
 group-none index (o ∷ pts) ps n e h = absurd (omega arith)
 
-pub group-owned : (index pts ps : List ℕ) (o : ℕ) → 0 < length pts → getD pts 0 0 ≡ o
+group-owned : (index pts ps : List ℕ) (o : ℕ) → 0 < length pts → getD pts 0 0 ≡ o
     → groupOf index pts ps ≡ record { parents = rootOf ps o .parents; answer = getD index (rootOf ps o .answer) 40 }
 unfolding groupOf
 group-owned index [] ps o h e = absurd (not-suc-le-zero h)
 group-owned index (p ∷ pts) ps o h e = rw e
 
-pub take-again : {A : Type 0} (n : ℕ) (l : List A) → take (length (take n l)) l ≡ take n l
-take-again zero l = refl
-take-again (suc n) [] = refl
-take-again {A} (suc n) (x ∷ l) = ap {B = List A} (λ r. x ∷ r) (take-again n l)
+-- the group of an equation that touches nothing, and of one whose first point is there
+module _ (index ps : List ℕ) (t : Touched) where
+  pub touched-none : t .count ≡ 0 → groupOf index (numbersOf t) ps ≡ record { parents = ps; answer = 40 }
+  touched-none e = group-none index (numbersOf t) ps (length (numbersOf t)) refl (omega (arith, numbers-length t))
+
+  pub touched-owned : 0 < t .count
+      → groupOf index (numbersOf t) ps
+      ≡ record { parents = rootOf ps (numberAt t 0) .parents; answer = getD index (rootOf ps (numberAt t 0) .answer) 40 }
+  touched-owned h =
+      let l : 0 < length (numbersOf t) = omega (arith, numbers-length t) in
+      group-owned index (numbersOf t) ps (numberAt t 0) l (number-at t 0 l)
 
 -- a turn of each sweep over the equations
 module _ (es : List Active) (ls : List Line) (n k : ℕ) (d : Active) (t : Touched) (h : k < length (take n es))

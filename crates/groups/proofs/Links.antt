@@ -1,9 +1,9 @@
 -- Being one point, or the two ends of a chain, is an equivalence. Assumes nothing.
+use Prim.Native.Nat.{ℕ}
 use mathlib.Core.List.{List, [], _∷_, _++_}
 use mathlib.Core.Logic.{_⊎_, inl, inr}
-use mathlib.Core.Path.{_≡_, refl, sym, _∙_}
-use Prim.Native.Nat.{ℕ}
-use Rattle.groups.specs.Chains.{Touches, Chain, last, next, Chained}
+use mathlib.Core.Path.{_≡_, sym, _∙_}
+use Rattle.groups.specs.Chains.{Chain, last, next, Chained}
 
 abbrev pub Linked : (ℕ → List ℕ) → ℕ → ℕ → Type 0
 Linked t p q = (p ≡ q) ⊎ Chained t p q

@@ -1,16 +1,16 @@
 -- What `listPoints` and `listEquations` come to: each tied point has its root's number, each equation its first point's.
 -- Assumes nothing.
-use mathlib.Core.Bool.{Bool, true, false, cond}
+use Prim.Native.Nat.{ℕ, suc, _+_, _≤_, _<_}
+use mathlib.Core.Bool.{Bool, true, false}
 use mathlib.Core.List.{List, [], _∷_, List·Memᴰ, List·Memᴰ·head, List·Memᴰ·not-nil}
 use mathlib.Core.Logic.{_≢_}
 use mathlib.Core.Path.{_≡_, refl, sym, ap, _∙_, subst}
-use Prim.Native.Nat.{ℕ, zero, suc, _+_, _≤_, _<_}
 use native.Mathlib.Decide.{ℕ-discrete, decLt}
 use native.Mathlib.Nat.{not-suc-le-zero}
 use native.Mathlib.Numerals.{add-one}
 use native.Mathlib.Omega.{arith}
 use borrow.Author.Tests.{eq-eqb, ne-eqb}
-use lib.Dec.{T, eqb}
+use lib.Dec.{T}
 use lib.ListN.{length, getD, set, replicate, length-set, List·getD-eq-default, getD-replicate}
 use lib.Seq.{getD-set-same, getD-set-other}
 use Rattle.groups.specs.Listed.{nothing, numberedOf, enteredOf, pointOf, listPoint, listPoints, groupOf, listEquation, listEquations}
@@ -20,7 +20,6 @@ use Rattle.groups.proofs.Forest.{rt, rt-low, rt-rt, Kept, kept-refl, ke
 use Rattle.groups.proofs.Keeps.{upTo-keeps}
 use Rattle.groups.proofs.Numbers.{leads, Leads, before, lead, lead-tied, lead-not, untied-not, before-zero, before-yes, before-no, before-le}
 use Rattle.groups.proofs.Ties.{tiedAt}
-use Rattle.loops.specs.Turns.{upTo}
 
 -- 40 stands in every place of such a list, and past its end
 none-at : (p : ℕ) → _≡_ {A = ℕ} (getD (replicate 40 40) p 40) 40

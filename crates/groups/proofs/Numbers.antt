@@ -1,25 +1,17 @@
 -- The number that each point and each equation gets: how many leading points, tied points that are their own roots, come before
 -- its root. Assumes nothing.
-use mathlib.Core.Bool.{Bool, true, false, cond}
-use mathlib.Core.List.{List, [], _∷_}
-use mathlib.Core.Logic.{_≢_}
-use mathlib.Core.Path.{_≡_, refl, sym, ap, _∙_, subst}
 use Prim.Native.Nat.{ℕ, zero, suc, _+_, _-_, _≤_, _<_}
-use native.Mathlib.Decide.{ℕ-discrete, decLt}
+use mathlib.Core.Bool.{Bool, true, false, cond}
+use mathlib.Core.List.{List}
+use mathlib.Core.Logic.{_≢_}
+use mathlib.Core.Path.{_≡_, refl, sym, subst}
+use native.Mathlib.Decide.{ℕ-discrete}
 use native.Mathlib.Nat.{not-suc-le-zero}
-use native.Mathlib.Numerals.{add-one}
 use native.Mathlib.Omega.{arith}
 use borrow.Author.Tests.{eq-eqb, ne-eqb, eqb-true}
 use lib.Dec.{T, eqb}
-use lib.ListN.{length, getD, set, replicate, length-set, List·getD-eq-default, getD-replicate}
-use lib.Seq.{getD-set-same, getD-set-other}
-use Rattle.groups.specs.Listed.{nothing, numberedOf, enteredOf, pointOf, listPoint, listPoints, groupOf, listEquation, listEquations}
-use Rattle.groups.specs.Parents.{up, Falls, Gives, rootOf}
-use Rattle.groups.specs.declared.Listing.{Listing}
-use Rattle.groups.proofs.Forest.{rt, rt-low, rt-rt, Kept, kept-refl, kept-trans, root-kept, root-is}
-use Rattle.groups.proofs.Keeps.{upTo-keeps}
+use Rattle.groups.proofs.Forest.{rt}
 use Rattle.groups.proofs.Ties.{tiedAt}
-use Rattle.loops.specs.Turns.{upTo}
 
 -- p leads its group: it is tied, and its own root
 pub leads : List Bool → List ℕ → ℕ → Bool

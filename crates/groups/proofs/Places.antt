@@ -1,9 +1,9 @@
 -- `placesFrom` lists the places that hold a number, and rises. Assumes nothing.
+use Prim.Native.Nat.{ℕ, zero, suc, _+_, _<_}
 use mathlib.Core.Bool.{Bool, true, false, cond}
 use mathlib.Core.List.{List, [], _∷_, List·Memᴰ, List·Memᴰ·head, List·Memᴰ·tail, List·Memᴰ·not-nil, List·Memᴰ·cases-cons}
 use mathlib.Core.Logic.{_⊎_, inl, inr}
-use mathlib.Core.Path.{_≡_, refl, sym, _∙_, subst}
-use Prim.Native.Nat.{ℕ, zero, suc, _+_, _≤_, _<_}
+use mathlib.Core.Path.{_≡_, refl}
 use native.Mathlib.Nat.{not-suc-le-zero, le-of-suc-le-suc}
 use native.Mathlib.Omega.{arith}
 use borrow.Author.Tests.{eqb-true, eq-eqb}
@@ -59,10 +59,6 @@ rises i (x ∷ l) j = go (eqb x j) (rises (suc i) l j)
     go false r = r
 
 module _ (l : List ℕ) (j p : ℕ) where
-  pub place-inside : List·Memᴰ p (placesFrom 0 l j) → p < length l
-  unfolding Held
-  place-inside m = let h = held 0 l j p m in omega (arith, h .1, h .2)
-
   pub place-holds : List·Memᴰ p (placesFrom 0 l j) → getD l p 40 ≡ j
   unfolding Held
   place-holds m =

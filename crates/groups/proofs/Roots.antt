@@ -1,22 +1,22 @@
 -- The roots once the points of every equation are joined: two touched points have one root exactly when a chain joins them.
 -- Assumes nothing.
+use Prim.Native.Nat.{ℕ, _+_, _<_, max, min}
 use mathlib.Core.Bool.{Bool, true, false, cond}
 use mathlib.Core.List.{List, [], _∷_, List·Memᴰ, List·Memᴰ·head, List·Memᴰ·tail, List·Memᴰ·not-nil, List·Memᴰ·cases-cons}
 use mathlib.Core.Logic.{_⊎_, inl, inr}
-use mathlib.Core.Path.{_≡_, refl, sym, ap, _∙_, subst}
-use Prim.Native.Nat.{ℕ, zero, suc, _+_, _≤_, _<_, max, min}
+use mathlib.Core.Path.{_≡_, refl, sym, _∙_}
 use native.Mathlib.Decide.{ℕ-discrete, decLt}
 use native.Mathlib.Nat.{not-suc-le-zero, max-eq-left, max-eq-right, min-eq-left, min-eq-right}
 use native.Mathlib.Omega.{arith}
 use borrow.Author.Tests.{eqb-true}
 use lib.Dec.{eqb}
-use lib.ListN.{length, getD, drop}
+use lib.ListN.{length}
+use Rattle.loops.specs.Turns.{fold}
 use Rattle.groups.specs.Chains.{Touches, Tied, Chain, last, next, Chained}
-use Rattle.groups.specs.Parents.{up, Falls, joinTo, joinAll, joined, alone}
+use Rattle.groups.specs.Parents.{Falls, joinTo, joinAll, joined, alone}
 use Rattle.groups.proofs.Forest.{rt, rt-at, merged, merged-at, merged-low, join-falls, join-sized, join-roots, alone-own, alone-falls}
 use Rattle.groups.proofs.Keeps.{upTo-keeps}
 use Rattle.groups.proofs.Links.{Linked, linked-back, linked-on}
-use Rattle.loops.specs.Turns.{fold, upTo}
 
 -- the larger of two roots under the smaller: both have one root then
 merged-both : (x y : ℕ) → merged (max x y) (min x y) x ≡ merged (max x y) (min x y) y

@@ -1,195 +1,204 @@
--- The groups are exactly the chains. Assumes nothing.
-use mathlib.Core.Bool.{Bool, true, false}
-use mathlib.Core.List.{List, [], _∷_, List·Memᴰ, List·Memᴰ·head, List·Memᴰ·not-nil}
-use mathlib.Core.Logic.{_≢_}
-use mathlib.Core.Path.{_≡_, refl, sym, ap, _∙_, subst}
-use Prim.Native.Nat.{ℕ, _+_, _-_, _≤_, _<_}
+-- Over every build that passes the checks before the fit, the groups are exactly the chains: every touched point is among the 40,
+-- so `Exactly` applies. Assumes nothing.
+use Prim.Native.Nat.{ℕ, zero, suc, _≤_, _<_}
+use mathlib.Core.Bool.{Bool, true, false, not, cond, _&&_}
+use mathlib.Core.List.{List, [], _∷_, _++_, map, List·Memᴰ, List·Memᴰ·not-nil, List·Memᴰ·cases-cons}
+use mathlib.Core.Logic.{_⊎_, inl, inr, _↔_}
+use mathlib.Core.Path.{_≡_, refl, sym, _∙_, subst}
 use native.Mathlib.Decide.{decLt}
+use native.Mathlib.Nat.{not-suc-le-zero, le-of-suc-le-suc}
 use native.Mathlib.Omega.{arith}
-use lib.ListN.{length, getD}
-use Rattle.groups.specs.Chains.{Touches, Tied, Chained, pointsIn, equationsIn, Lowest, Together, GroupsAreChains}
-use Rattle.groups.specs.Listed.{listPoints, listEquations, groupsOf}
-use Rattle.groups.specs.Parents.{alone, joined}
+use borrow.Author.Tests.{ltb-true}
+use lib.Dec.{T}
+use lib.ListN.{length, getD, take, length-take, List·getD-eq-default}
+use lib.Seq.{getD-take}
+use Rattle.loops.specs.Turns.{every}
+use Rattle.sketch.proofs.Within.{within}
+use Rattle.sketch.specs.Check.{checkOf}
+use Rattle.sketch.specs.Given.{passes-exactly}
+use Rattle.sketch.specs.Indices.{isPoint, isLine, foundLine, foundRad, foundEquation, foundActive, foundMeasured, foundBuild}
+use Rattle.sketch.specs.Involved.{noLine, lineAt, ends, centred, involvedOf}
+use Rattle.sketch.specs.Parts.{linesOf, equationsOf, measuresOf}
+use Rattle.sketch.specs.declared.Active.{Active}
+use Rattle.sketch.specs.declared.Build.{Build}
+use Rattle.sketch.specs.declared.Checked.the-variants.{Passes}
+use Rattle.sketch.specs.declared.Equation.{Equation}
+use Rattle.sketch.specs.declared.Line.{Line}
+use Rattle.sketch.specs.declared.LineNo.{LineNo}
+use Rattle.sketch.specs.declared.PointNo.{PointNo}
+use Rattle.sketch.specs.declared.Rad.{Rad}
+use Rattle.groups.specs.Chains.{Touches, Tied, GroupsAreChains}
+use Rattle.groups.specs.Listed.{groupsOf}
 use Rattle.groups.specs.Tied.{tiedOf}
-use Rattle.groups.specs.declared.Grouping.{Grouping}
-use Rattle.groups.specs.declared.Listing.{Listing}
-use Rattle.groups.proofs.Forest.{rt, rt-low, rt-rt}
-use Rattle.groups.proofs.Listings.{Listed, points-kept, points-listed, root-leads, owner, owned, equation-sized, equation-old, equation-new}
-use Rattle.groups.proofs.Numbers.{Leads, before, lead-tied, lead-root, before-le, before-mono, before-lt, before-find}
-use Rattle.groups.proofs.Places.{rises, place-inside, place-holds, placed}
-use Rattle.groups.proofs.Roots.{Good, good, chain-root, root-chain, root-tied}
-use Rattle.groups.proofs.Ties.{tiedAt, tied-all, tied-only}
+use Rattle.groups.specs.Touches.{number, held, touchedIn, touchedBy}
+use Rattle.groups.proofs.Exactly.{chains}
+use Rattle.groups.proofs.Ties.{tied-all, tied-only}
 
-module _ (t : ℕ → List ℕ) (n : ℕ) (few : n ≤ 40) (inside : (k p : ℕ) → Touches t k p → p < 40) (active : (k p : ℕ) → Touches t k p → k < n) where
-  -- the parents once all is joined, the tied points, and the groups
-  abbrev P : List ℕ
-  P = joined t n alone
+-- every one of a row of tests
+both : (a b : Bool) → a && b ≡ true → (a ≡ true) × (b ≡ true)
+both true b h = (refl, h)
+both false b h = absurd (subst T (sym h) tt)
 
-  abbrev W : List Bool
-  W = tiedOf t n
+both3 : (a b c : Bool) → a && b && c ≡ true → (a ≡ true) × (b ≡ true) × (c ≡ true)
+both3 a b c h = let e = both (a && b) c h in let f = both a b (e .0) in (f .0, f .1, e .1)
 
-  abbrev g : Grouping
-  g = groupsOf t n
+both4 : (a b c d : Bool) → a && b && c && d ≡ true → (a ≡ true) × (b ≡ true) × (c ≡ true) × (d ≡ true)
+both4 a b c d h = let e = both (a && b && c) d h in let f = both3 a b c (e .0) in (f .0, f .1, f .2, e .1)
 
-  -- the number of the point p's group
-  abbrev numberAt : ℕ → ℕ
-  numberAt p = before W P (rt P p)
+not-false : (b : Bool) → not b ≡ false → b ≡ true
+not-false true h = refl
+not-false false h = sym h
 
-  goods : Good t n P
-  goods = good t n inside
+-- what holds of every element holds of one
+every-at : {A : Type 0} (p : A → Bool) (l : List A) (i : ℕ) (d : A) → every p l ≡ true → i < length l → p (getD l i d) ≡ true
+unfolding every
+every-at p [] i d e h = absurd (not-suc-le-zero h)
+every-at p (x ∷ l) zero d e h = go (p x) e
+  where
+    go : (b : Bool) → cond b (every p l) false ≡ true → b ≡ true
+    go true e = refl
+    go false e = e
+every-at p (x ∷ l) (suc i) d e h = every-at p l i d (go (p x) e) (le-of-suc-le-suc h)
+  where
+    go : (b : Bool) → cond b (every p l) false ≡ true → every p l ≡ true
+    go true e = e
+    go false e = absurd (subst T (sym e) tt)
 
-  yes-tied : (p : ℕ) → Tied t p → tiedAt W p ≡ true
-  yes-tied p m = tied-all t n inside (m .0) p (active (m .0) p (m .1)) (m .1)
+-- each number is below 40
+abbrev Small : List ℕ → Type 0
+Small [] = Unit {0}
+Small (x ∷ l) = (x < 40) × Small l
 
-  above : (p : ℕ) → tiedAt W p ≡ true → tiedAt W (rt P p) ≡ true
-  above p e = yes-tied (rt P p) (root-tied t n P goods active p (tied-only t n inside p e))
+small-at : (l : List ℕ) (p : ℕ) → Small l → List·Memᴰ p l → p < 40
+small-at [] p s m = absurd (List·Memᴰ·not-nil m)
+small-at (x ∷ l) p s m = go (List·Memᴰ·cases-cons m) (λ n. small-at l p (s .1) n)
+  where
+    go : (p ≡ x) ⊎ List·Memᴰ p l → (List·Memᴰ p l → p < 40) → p < 40
+    go (inl e) r = rw e (s .0)
+    go (inr n) r = r n
 
-  listed : Listed W P 40 (listPoints W P .answer)
-  listed = points-listed W P (goods .falls) above
+-- the points n, the lines m of the list ls
+module _ (n m : ℕ) (ls : List Line) (few : n ≤ 40) (lines : every (foundLine n) (take m ls) ≡ true) where
+  point : (p : PointNo) → isPoint n p ≡ true → number p < 40
+  point p e = omega (arith, ltb-true (p .0) n e)
 
-  below : (p : ℕ) → Tied t p → p < 40
-  below p m = inside (m .0) p (m .1)
-
-  leading : (p : ℕ) → Tied t p → Leads W P (rt P p)
-  leading p m = root-leads W P (goods .falls) above p (yes-tied p m)
-
-  count-is : g .count ≡ before W P 40
-  unfolding groupsOf
-  count-is = listed .counted
-
-  points-length : length (g .«of_point») ≡ 40
-  unfolding groupsOf
-  points-length = listed .point-sized
-
-  point-is : (p : ℕ) → Tied t p → getD (g .«of_point») p 40 ≡ numberAt p
-  unfolding groupsOf
-  point-is p m = listed .point-old p (below p m) (yes-tied p m)
-
-  number-less : (p : ℕ) → Tied t p → numberAt p < g .count
-  number-less p m = rw count-is (before-lt W P (rt P p) 40 (leading p m) (omega (arith, rt-low P (goods .falls) p, below p m)))
-
-  count-small : g .count ≤ 40
-  count-small = omega (arith, count-is, before-le W P 40)
-
-  -- 40 is no group's number
-  point-tied : (p j : ℕ) → j < g .count → getD (g .«of_point») p 40 ≡ j → Tied t p
-  unfolding groupsOf
-  point-tied p j h e = go (tiedAt W p) refl
+  line : (l : LineNo) → isLine m l ≡ true → (number (lineAt ls l .from) < 40) × (number (lineAt ls l .to) < 40)
+  line l e = go (decLt (l .0) (length (take m ls)))
     where
-      go : (b : Bool) → tiedAt W p ≡ b → Tied t p
-      go true q = tied-only t n inside p q
-      go false q = absurd (omega (arith, count-small, sym (listed .point-not p q) ∙ e))
+      h : l .0 < m
+      h = ltb-true (l .0) m e
 
-  one-root : (p q : ℕ) → Tied t p → Tied t q → numberAt p ≡ numberAt q → rt P p ≡ rt P q
-  one-root p q a b e = go (decLt (rt P p) (rt P q)) (decLt (rt P q) (rt P p))
-    where
-      go : Dec (rt P p < rt P q) → Dec (rt P q < rt P p) → rt P p ≡ rt P q
-      go (yes h) d = absurd (omega (arith, before-lt W P (rt P p) (rt P q) (leading p a) h))
-      go (no m) (yes h) = absurd (omega (arith, before-lt W P (rt P q) (rt P p) (leading q b) h))
-      go (no m) (no k) = omega arith
+      same : getD (take m ls) (l .0) noLine ≡ lineAt ls l
+      same = getD-take m ls (l .0) noLine h
 
-  -- a point's root is listed with it, and has no lower number
-  root-place : (p j : ℕ) → Tied t p → getD (g .«of_point») p 40 ≡ j → List·Memᴰ (rt P p) (pointsIn g j)
-  root-place p j m e =
-      let r = root-tied t n P goods active p m in
-      placed (g .«of_point») j (rt P p) (rw points-length (below (rt P p) r))
-      (point-is (rt P p) r ∙ ap (before W P) (rt-rt P (goods .falls) p) ∙ sym (point-is p m) ∙ e)
+      go : Dec (l .0 < length (take m ls)) → (number (lineAt ls l .from) < 40) × (number (lineAt ls l .to) < 40)
+      go (yes i) =
+          let a = lineAt ls l .from in
+          let c = lineAt ls l .to in
+          let f : foundLine n (lineAt ls l) ≡ true = rw same at (every-at (foundLine n) (take m ls) (l .0) noLine lines i) in
+          let t = both (isPoint n a) (isPoint n c) f in
+          (point a (t .0), point c (t .1))
+      go (no i) =
+          let f : lineAt ls l ≡ noLine = sym same ∙ List·getD-eq-default (take m ls) noLine (omega arith) in
+          rw f (omega arith, omega arith)
 
-  -- the group of an equation
-  index : List ℕ
-  index = listPoints W P .answer .index
+  circle : (c : PointNo) (r : Rad) → isPoint n c ≡ true → foundRad n r ≡ true → Small (map number (centred c r))
+  circle c (Rad.Point p) e h = (point c e, (point p h, tt))
+  circle c (Rad.Value v) e h = (point c e, tt)
 
-  equations-length : length (g .«of_equation») ≡ 40
-  unfolding groupsOf index
-  equations-length = equation-sized P index t n few (listPoints W P .parents) (points-kept W P (goods .falls) above)
+  circles : (c₁ c₂ : PointNo) (r₁ r₂ : Rad) → isPoint n c₁ ≡ true → foundRad n r₁ ≡ true → isPoint n c₂ ≡ true → foundRad n r₂ ≡ true
+      → Small (map number (centred c₁ r₁ ++ centred c₂ r₂))
+  circles c₁ c₂ (Rad.Point p) r₂ e h i j = (point c₁ e, (point p h, circle c₂ r₂ i j))
+  circles c₁ c₂ (Rad.Value v) r₂ e h i j = (point c₁ e, circle c₂ r₂ i j)
 
-  equation-is : (k p : ℕ) → Touches t k p → getD (g .«of_equation») k 40 ≡ numberAt p
-  unfolding groupsOf index
-  equation-is k p m =
-      let o = owner P index (t k) p m in
-      let a : Tied t (o .0) = (k, o .1) in
-      equation-old P index t n few (listPoints W P .parents) (points-kept W P (goods .falls) above) k (active k p m)
-      ∙ o .2
-      ∙ listed .index-old (rt P (o .0)) (omega (arith, rt-low P (goods .falls) (o .0), below (o .0) a)) (leading (o .0) a)
-      ∙ ap (before W P) (goods .whole k (o .0) p (active k p m) (o .1) m)
+  two : (a b : PointNo) → isPoint n a && isPoint n b ≡ true → Small (map number (a ∷ b ∷ []))
+  two a b h = let e = both (isPoint n a) (isPoint n b) h in (point a (e .0), (point b (e .1), tt))
 
-  equation-tied : (k j : ℕ) → j < g .count → getD (g .«of_equation») k 40 ≡ j → (p : ℕ) × Touches t k p
-  unfolding groupsOf index
-  equation-tied k j h e = go (decLt k n)
-    where
-      go : Dec (k < n) → (p : ℕ) × Touches t k p
-      go (yes l) =
-          owned P index (t k)
-          (λ z. omega (
-            arith,
-            count-small,
-            sym e ∙ equation-old P index t n few (listPoints W P .parents) (points-kept W P (goods .falls) above) k l ∙ z,
-          ))
-      go (no l) =
-          absurd (omega (
-            arith,
-            count-small,
-            sym e ∙ equation-new P index t n few (listPoints W P .parents) (points-kept W P (goods .falls) above) k (omega arith),
-          ))
+  three : (a b c : PointNo) → isPoint n a && isPoint n b && isPoint n c ≡ true → Small (map number (a ∷ b ∷ c ∷ []))
+  three a b c h = let e = both3 (isPoint n a) (isPoint n b) (isPoint n c) h in (point a (e .0), (point b (e .1), (point c (e .2), tt)))
 
-  lowest : (j : ℕ) → j < g .count → (p : ℕ) × Lowest g j p
-  lowest j h =
-      let f = before-find W P 40 j (rw count-is at h) in
-      let r = f .0 in
-      let m : Tied t r = tied-only t n inside r (lead-tied W P r (f .2)) in
-      let e : rt P r ≡ r = lead-root W P r (f .2) in (
-        r,
-        (
-          placed (g .«of_point») j r (rw points-length (f .1)) (point-is r m ∙ ap (before W P) e ∙ f .3),
-          λ q w.
-              let b : Tied t q = point-tied q j h (place-holds (g .«of_point») j q w) in
-              let s : rt P r ≡ rt P q = one-root r q m b (ap (before W P) e ∙ f .3 ∙ sym (place-holds (g .«of_point») j q w) ∙ point-is q b) in
-              omega (arith, rt-low P (goods .falls) q),
-        ),
-      )
+  four : (a b c d : PointNo) → isPoint n a && isPoint n b && isPoint n c && isPoint n d ≡ true → Small (map number (a ∷ b ∷ c ∷ d ∷ []))
+  four a b c d h =
+      let e = both4 (isPoint n a) (isPoint n b) (isPoint n c) (isPoint n d) h in
+      (point a (e .0), (point b (e .1), (point c (e .2), (point d (e .3), tt))))
 
-  -- the lowest point of a group is its root
-  lowest-root : (j p : ℕ) → j < g .count → Lowest g j p → rt P p ≡ p
-  lowest-root j p h l =
-      let e = place-holds (g .«of_point») j p (l .0) in
-      omega (arith, rt-low P (goods .falls) p, l .1 (rt P p) (root-place p j (point-tied p j h e) e))
+  lined : (l : LineNo) (ps : List PointNo) → isLine m l ≡ true → Small (map number ps) → Small (map number (ends ls l ++ ps))
+  lined l ps e s = (line l e .0, (line l e .1, s))
 
-  lowest-number : (j p : ℕ) → j < g .count → Lowest g j p → before W P p ≡ j
-  lowest-number j p h l =
-      let e = place-holds (g .«of_point») j p (l .0) in
-      sym (ap (before W P) (lowest-root j p h l)) ∙ sym (point-is p (point-tied p j h e)) ∙ e
+  lines-two : (i j : LineNo) → isLine m i && isLine m j ≡ true → Small (map number (ends ls i ++ ends ls j))
+  lines-two i j h = let e = both (isLine m i) (isLine m j) h in lined i (ends ls j) (e .0) (lined j [] (e .1) tt)
 
-  ordered : (i j p q : ℕ) → i < j → j < g .count → Lowest g i p → Lowest g j q → p < q
-  ordered i j p q l h a b = go (decLt p q)
-    where
-      go : Dec (p < q) → p < q
-      go (yes r) = r
-      go (no r) =
-          let e : q + (p - q) ≡ p = omega arith in
-          let s : before W P q ≤ before W P p = rw e at (before-mono W P q (p - q)) in
-          absurd (omega (arith, lowest-number i p (omega arith) a, lowest-number j q h b))
+  point-line : (p : PointNo) (l : LineNo) → isPoint n p && isLine m l ≡ true → Small (map number (p ∷ ends ls l))
+  point-line p l h = let e = both (isPoint n p) (isLine m l) h in (point p (e .0), lined l [] (e .1) tt)
 
-  pub chains : GroupsAreChains t (groupsOf t n)
-  chains = record {
-    together = λ p q a b. (
-      λ w. root-chain t n P goods active (a .0) p q (a .1) (one-root p q a b (
-          sym (point-is p a) ∙ place-holds (g .«of_point») (w .0) p (w .2) ∙ sym (place-holds (g .«of_point») (w .0) q (w .3)) ∙ point-is q b
-          )),
-      λ c. (
-        numberAt p,
-        number-less p a,
-        placed (g .«of_point») (numberAt p) p (rw points-length (below p a)) (point-is p a),
-        placed (g .«of_point») (numberAt p) q (rw points-length (below q b)) (point-is q b ∙ ap (before W P) (sym (chain-root t n P goods active (c .1)))),
-      ),
-    );
-    point-listed = λ p a. (numberAt p, number-less p a, placed (g .«of_point») (numberAt p) p (rw points-length (below p a)) (point-is p a));
-    point-once = λ p i j a b. sym (place-holds (g .«of_point») i p a) ∙ place-holds (g .«of_point») j p b;
-    point-only = λ p j h m. point-tied p j h (place-holds (g .«of_point») j p m);
-    equation-listed = λ k p j m a. placed (g .«of_equation») j k (rw equations-length (omega (arith, active k p m))) (equation-is k p m ∙ sym (point-is p (k, m)) ∙ place-holds (g .«of_point») j p a);
-    equation-once = λ k i j a b. sym (place-holds (g .«of_equation») i k a) ∙ place-holds (g .«of_equation») j k b;
-    equation-only = λ k j h m. equation-tied k j h (place-holds (g .«of_equation») j k m);
-    points-rise = λ j. rises 0 (g .«of_point») j;
-    equations-rise = λ j. rises 0 (g .«of_equation») j;
-    lowest = lowest;
-    ordered = ordered;
-  }
+  small : (e : Equation) → foundEquation n m e ≡ true → Small (map number (involvedOf ls e))
+  small (Equation.Coincident a b) h = two a b h
+  small (Equation.Level a b axis) h = two a b h
+  small (Equation.Parallel i j) h = lines-two i j h
+  small (Equation.Perpendicular i j) h = lines-two i j h
+  small (Equation.Collinear i j) h = lines-two i j h
+  small (Equation.Equal i j) h = lines-two i j h
+  small Equation.Held h = tt
+  small (Equation.Distance a b value) h = two a b h
+  small (Equation.AxisDistance a b axis value side) h = two a b h
+  small (Equation.Length l value) h = lined l [] h tt
+  small (Equation.PointLine p l value side) h = point-line p l h
+  small (Equation.ArcEnds c f t) h = three c f t h
+  small (Equation.Radius c f value) h = two c f h
+  small (Equation.LineCircle l c rad side) h =
+      let e = both3 (isLine m l) (isPoint n c) (foundRad n rad) h in
+      lined l (centred c rad) (e .0) (circle c rad (e .1) (e .2))
+  small (Equation.CircleCircle c₁ r₁ c₂ r₂ contact) h =
+      let e = both4 (isPoint n c₁) (foundRad n r₁) (isPoint n c₂) (foundRad n r₂) h in
+      circles c₁ c₂ r₁ r₂ (e .0) (e .1) (e .2) (e .3)
+  small (Equation.LineArcAt l c p) h =
+      let e = both3 (isLine m l) (isPoint n c) (isPoint n p) h in
+      lined l (c ∷ p ∷ []) (e .0) (point c (e .1), (point p (e .2), tt))
+  small (Equation.ArcArcAt c₁ c₂ p) h = three c₁ c₂ p h
+  small (Equation.Midpoint p l) h = point-line p l h
+  small (Equation.ArcMidpoint p c f t) h = four p c f t h
+  small (Equation.Symmetric p q l) h =
+      let e = both3 (isPoint n p) (isPoint n q) (isLine m l) h in
+      (point p (e .0), (point q (e .1), lined l [] (e .2) tt))
+  small (Equation.EqualRadius c₁ f₁ c₂ f₂) h = four c₁ f₁ c₂ f₂ h
+
+-- what is past the last equation touches nothing
+past : (es : List Active) (ls : List Line) (k p : ℕ) → Touches (touchedIn es ls) k p → k < length es
+unfolding touchedIn
+past es ls k p m = go (decLt k (length es)) m
+  where
+    go : Dec (k < length es) → List·Memᴰ p (map number (involvedOf ls (getD es k held .equation))) → k < length es
+    go (yes h) m = h
+    go (no h) m =
+        let e : getD es k held ≡ held = List·getD-eq-default es held (omega arith) in
+        absurd (List·Memᴰ·not-nil (rw e at m))
+
+module _ (b : Build) (passes : checkOf b ≡ Passes) where
+  counts : (b .«point_count» ≤ 40) × (b .«line_count» ≤ 40) × (b .«equation_count» ≤ 40) × (b .«measure_count» ≤ 20)
+  counts = within b (passes-exactly b .0 passes .0)
+
+  found : (every (foundLine (b .«point_count»)) (linesOf b) ≡ true)
+      × (every (foundActive (b .«point_count») (b .«line_count»)) (equationsOf b) ≡ true)
+      × (every (foundMeasured (b .«point_count») (b .«line_count»)) (measuresOf b) ≡ true)
+  found = both3 _ _ _ (not-false (foundBuild b) (passes-exactly b .0 passes .2))
+
+  inside : (k p : ℕ) → Touches (touchedBy b) k p → p < 40
+  unfolding touchedIn
+  inside k p m =
+      let found-at = foundActive (b .«point_count») (b .«line_count») in
+      let e = every-at found-at (equationsOf b) k held (found .1) (past (equationsOf b) (b .lines) k p m) in
+      small-at (touchedBy b k) p
+      (small (b .«point_count») (b .«line_count») (b .lines) (counts .0) (found .0) (getD (equationsOf b) k held .equation) e)
+      m
+
+  pub groups-are-chains : GroupsAreChains (touchedBy b) (groupsOf (touchedBy b) (length (equationsOf b)))
+  groups-are-chains =
+      chains (touchedBy b) (length (equationsOf b)) (omega (arith, length-take (b .«equation_count») (b .equations), counts .2)) inside
+      (past (equationsOf b) (b .lines))
+
+  -- `tied_points` tells exactly the points that an equation touches
+  pub tied-exactly : (p : ℕ) → getD (tiedOf (touchedBy b) (length (equationsOf b))) p false ≡ true ↔ Tied (touchedBy b) p
+  tied-exactly p = (
+    tied-only (touchedBy b) (length (equationsOf b)) inside p,
+    λ m. tied-all (touchedBy b) (length (equationsOf b)) inside (m .0) p (past (equationsOf b) (b .lines) (m .0) p (m .1)) (m .1),
+  )

@@ -1,19 +1,19 @@
 -- `tiedOf` says of each point whether an equation touches it. Assumes nothing.
+use Prim.Native.Nat.{ℕ, _+_, _<_}
 use mathlib.Core.Bool.{Bool, true, false}
 use mathlib.Core.List.{List, [], _∷_, List·Memᴰ, List·Memᴰ·head, List·Memᴰ·tail, List·Memᴰ·not-nil, List·Memᴰ·cases-cons}
 use mathlib.Core.Logic.{_⊎_, inl, inr}
-use mathlib.Core.Path.{_≡_, refl, sym, ap, _∙_, subst}
-use Prim.Native.Nat.{ℕ, zero, suc, _+_, _≤_, _<_}
+use mathlib.Core.Path.{_≡_, refl, sym, _∙_, subst}
 use native.Mathlib.Decide.{ℕ-discrete, decLt}
 use native.Mathlib.Nat.{not-suc-le-zero}
 use native.Mathlib.Omega.{arith}
 use lib.Dec.{T}
 use lib.ListN.{length, getD, set, replicate, length-set, List·getD-eq-default, getD-replicate}
 use lib.Seq.{getD-set-same, getD-set-other, set-out}
+use Rattle.loops.specs.Turns.{fold}
 use Rattle.groups.specs.Chains.{Touches, Tied}
 use Rattle.groups.specs.Tied.{tieTo, tieAll, tiedIn, tiedOf}
 use Rattle.groups.proofs.Keeps.{upTo-keeps}
-use Rattle.loops.specs.Turns.{fold, upTo}
 
 abbrev pub tiedAt : List Bool → ℕ → Bool
 tiedAt s p = getD s p false

@@ -1,9 +1,9 @@
 -- What groups are, apart from how they are found: exactly the chains. `t k` are the points that equation k touches, and a
 -- grouping g says of each point and of each equation which group it is in.
+use Prim.Native.Nat.{ℕ, suc, _≤_, _<_}
 use mathlib.Core.Bool.{cond}
 use mathlib.Core.List.{List, [], _∷_, List·Memᴰ}
 use mathlib.Core.Logic.{_↔_}
-use Prim.Native.Nat.{ℕ, suc, _≤_, _<_}
 use mathlib.Core.Path.{_≡_}
 use lib.Dec.{eqb}
 use Rattle.groups.specs.declared.Grouping.{Grouping}

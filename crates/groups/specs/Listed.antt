@@ -1,8 +1,8 @@
 -- equations.rs, `groups`, its second half: from the roots to the groups. 40 stands for the Rust's `usize::MAX` in `index`, and
 -- says of a point or an equation that it is in no group.
+use Prim.Native.Nat.{ℕ, _+_}
 use mathlib.Core.Bool.{Bool, true, false, cond}
 use mathlib.Core.List.{List, [], _∷_}
-use Prim.Native.Nat.{ℕ, _+_}
 use lib.Dec.{eqb}
 use lib.ListN.{getD, set, replicate}
 use Rattle.loops.specs.Turns.{upTo}

@@ -1,8 +1,9 @@
 -- equations.rs, `groups`: its `parent`, its `root`, and the joining of each equation's points. The lists here are the numbers
 -- of the points that an equation touches, `t k` those of equation k.
-use mathlib.Core.Bool.{Bool, cond}
-use mathlib.Core.List.{List, []}
 use Prim.Native.Nat.{ℕ, zero, suc, _≤_, max, min}
+use mathlib.Core.Bool.{cond}
+use mathlib.Core.List.{List}
+use mathlib.Core.Path.{_≡_}
 use lib.Dec.{eqb}
 use lib.ListN.{getD, set, drop, replicate}
 use Rattle.loops.specs.Turns.{upTo, fold}
@@ -19,6 +20,10 @@ Falls ps = (x : ℕ) → up ps x ≤ x
 pub record Gives (A : Type 0) : Type 0 where
   pub parents : List ℕ
   pub answer : A
+
+-- it leaves the parents ps and answers a
+abbrev pub Leaves : {A : Type 0} → Gives A → List ℕ → A → Type 0
+Leaves g ps a = (a ≡ g .answer) × (ps ≡ g .parents)
 
 -- p[x] = p[p[x]]
 abbrev pub halved : List ℕ → ℕ → List ℕ

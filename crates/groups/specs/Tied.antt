@@ -1,7 +1,7 @@
 -- equations.rs, `tied_points`: whether an equation touches a point. `t k` are the points that equation k touches.
+use Prim.Native.Nat.{ℕ}
 use mathlib.Core.Bool.{Bool, true, false}
 use mathlib.Core.List.{List}
-use Prim.Native.Nat.{ℕ}
 use lib.ListN.{set, replicate}
 use Rattle.loops.specs.Turns.{upTo, fold}
 

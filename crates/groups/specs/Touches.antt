@@ -1,6 +1,6 @@
 -- The points that an equation touches, by number.
-use mathlib.Core.List.{List, [], _∷_, map}
 use Prim.Native.Nat.{ℕ}
+use mathlib.Core.List.{List, [], _∷_, map}
 use lib.ListN.{getD, take}
 use Rattle.sketch.specs.Involved.{involvedOf, noPoint}
 use Rattle.sketch.specs.Parts.{equationsOf}

@@ -2,7 +2,7 @@
 ghost use mathlib.Core.Path.{_≡_};
 ghost use Prim.Native.Nat.{max, min};
 ghost use lib.ListN.{set};
-ghost use Rattle.groups.specs.Parents.{up, Falls, rootOf, joinTo, joinAll};
+ghost use Rattle.groups.specs.Parents.{up, Falls, Leaves, rootOf, joinTo, joinAll};
 ghost use Rattle.groups.specs.Touches.{numbersOf};
 use sketch::Touched;
 
@@ -35,7 +35,7 @@ pub(crate) fn smaller(a: usize, b: usize) -> usize
 // The root of x. Each point on the way gets its parent's parent, so that the next walk is half as long.
 pub(crate) fn root(p: &mut [usize], x: usize) -> usize
     requires { ⌜ Falls (now p) ⌝ }
-    ensures { λ r. ⌜ (r ≡ rootOf (now (p .entry)) x .answer) × (now (p .exit) ≡ rootOf (now (p .entry)) x .parents) ⌝ }
+    ensures { λ r. ⌜ Leaves (rootOf (now (p .entry)) x) (now (p .exit)) r ⌝ }
 {
     let mut x = x;
     while up(p, x) != x {
@@ -53,7 +53,9 @@ fn join(p: &mut [usize], x: usize, y: usize)
 {
     let a = root(p, x);
     let b = root(p, y);
-    put(p, larger(a, b), smaller(a, b));
+    let under = larger(a, b);
+    let over = smaller(a, b);
+    put(p, under, over);
 }
 
 // Each point of an equation joins its first.

@@ -6,6 +6,7 @@ ghost use Rattle.groups.specs.Parents.{Falls, alone, joined};
 ghost use Rattle.groups.specs.Touches.{touchedIn, touchedBy};
 ghost use Rattle.sketch.specs.Parts.{equationsOf};
 use crate::Grouping;
+use crate::NO_GROUP;
 use crate::numbering::group_of;
 use crate::numbering::list_points;
 use crate::parents::join_all;
@@ -16,6 +17,7 @@ use sketch::Active;
 use sketch::Build;
 use sketch::Line;
 
+// Every point is its own root.
 fn each_alone() -> [usize; 40]
     ensures { λ r. ⌜ r ≡ alone ⌝ }
 {
@@ -37,6 +39,7 @@ fn join_equations(p: &mut [usize], equations: [Active; 40], n: usize, lines: [Li
     }
 }
 
+// Each equation goes to the group of its first point.
 fn list_equations(
     p: &mut [usize],
     index: [usize; 40],
@@ -48,7 +51,7 @@ fn list_equations(
     ensures { λ r. ⌜ r ≡ listEquations index (touchedIn (take n equations) lines) (length (take n equations)) (now (p .entry)) .answer ⌝ }
 {
     let m = smaller(n, 40);
-    let mut of = [40; 40];
+    let mut of = [NO_GROUP; 40];
     for k in 0..m {
         let a = equations[k];
         of[k] = group_of(p, index, touched(a, lines));
@@ -56,6 +59,7 @@ fn list_equations(
     of
 }
 
+// The groups of a build, in the order of their lowest points.
 pub fn groups(b: Build) -> Grouping
     ensures { λ r. ⌜ r ≡ groupsOf (touchedBy b) (length (equationsOf b)) ⌝ }
 {

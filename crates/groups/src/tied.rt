@@ -49,6 +49,7 @@ fn tie_equations(s: &mut [bool], equations: [Active; 40], n: usize, lines: [Line
     }
 }
 
+// Whether an equation touches each point.
 pub fn tied_points(b: Build) -> [bool; 40]
     ensures { λ r. ⌜ r ≡ tiedOf (touchedBy b) (length (equationsOf b)) ⌝ }
 {

@@ -1,10 +1,14 @@
-use Rattle.groups.proofs.Laws.{entered-is}
+-- Assumes nothing.
 use borrow.Author.Needs.{needs}
+use Rattle.groups.proofs.Laws.{entered-is}
 use Rattle.groups.proofs.numbering.entered.Statement.{statement}
 use Rattle.groups.proofs.numbering.entered.Tie as tie
 
 returns : tie.Need-returns
-returns c = entered-is (c .before .before .args .r) (c .before .before .args .q) (c .before .before .args .s) (c .before .numbered .result) (search needs) (c .before .numbered .ensures)
+returns c =
+    let a = c .before .before .args in
+    let numbered = c .before .numbered in
+    entered-is (a .r) (a .q) (a .s) (numbered .result) (search needs) (numbered .ensures)
 
 pub entered-spec : {M : Type 1} → statement M
 entered-spec =

@@ -1,19 +1,25 @@
-use Rattle.loops.specs.Turns.{upTo, upTo-next, upTo-done}
-use Rattle.groups.specs.declared.Listing.{Listing}
-use Rattle.groups.specs.Listed.{listPoint, listPoints, pointOf}
-use Rattle.groups.specs.Parents.{Falls, Gives}
-use lib.ListN.{length, getD}
+-- Each turn gives at most one number, so that the count stays within the points passed. Assumes nothing.
 use Prim.Native.Nat.{_≤_, _-_}
 use mathlib.Core.Bool.{false}
-use Rattle.groups.proofs.Laws.{point-falls, point-count, both}
-use native.Mathlib.Omega.{arith}
 use mathlib.Core.Path.{_≡_, refl, ap}
+use native.Mathlib.Omega.{arith}
 use borrow.Author.Needs.{needs}
+use lib.ListN.{length, getD}
+use Rattle.loops.specs.Turns.{upTo, upTo-next, upTo-done}
+use Rattle.groups.specs.Listed.{listPoint, listPoints, pointOf}
+use Rattle.groups.specs.Parents.{Falls, Gives}
+use Rattle.groups.specs.declared.Listing.{Listing}
+use Rattle.groups.proofs.Laws.{point-falls, point-count, both}
 use Rattle.groups.proofs.numbering.list_points.Statement.{statement}
 use Rattle.groups.proofs.numbering.list_points.Tie as tie
 
 abbrev Inv-loop : tie.InvT-loop
-Inv-loop p₀ tied s₀ q₀ p s q = (length p ≡ length p₀) × (Falls p) × (q ≤ 40) × (s .count ≤ q) × (upTo 40 q (listPoint tied) (record { parents = p; answer = s }) ≡ listPoints tied p₀)
+Inv-loop p₀ tied s₀ q₀ p s q =
+    (length p ≡ length p₀)
+    × (Falls p)
+    × (q ≤ 40)
+    × (s .count ≤ q)
+    × (upTo 40 q (listPoint tied) (record { parents = p; answer = s }) ≡ listPoints tied p₀)
 
 abbrev μ-loop : tie.MeasureT-loop
 μ-loop p₀ tied s₀ q₀ p s q = 40 - q
@@ -27,10 +33,25 @@ list-point-requires c κs = (c .before .before .loop .inv .1, search needs, sear
 
 loop-again : tie.Need-loop-again Inv-loop μ-loop
 unfolding listPoint
-loop-again c = let g : Gives Listing = record { parents = c .before .before .before .before .before .loop .p; answer = c .before .before .before .before .before .loop .s } in let b = getD (c .before .before .before .before .before .before .before .before .args .t2) (c .before .before .before .before .before .loop .q) false in (search needs, point-falls b (c .before .before .before .before .before .loop .q) g (c .before .before .list-point .last .0) (c .before .before .before .before .before .loop .inv .1) (c .before .before .list-point .ensures .1), search needs, omega (arith, point-count b (c .before .before .before .before .before .loop .q) g (c .before .before .list-point .result) (c .before .before .list-point .ensures .0)), upTo-next (listPoint (c .before .before .before .before .before .before .before .before .args .t2)) 40 (c .before .before .before .before .before .loop .q) g _ _ (search needs) (both (pointOf b (c .before .before .before .before .before .loop .q) g) _ _ (c .before .before .list-point .ensures .1) (c .before .before .list-point .ensures .0)) (c .before .before .before .before .before .loop .inv .4))
+loop-again c =
+    let a = c .before .before .before .before .before .before .before .before .args in
+    let l = c .before .before .before .before .before .loop in
+    let list-point = c .before .before .list-point in
+    let g : Gives Listing = record { parents = l .p; answer = l .s } in
+    let b = getD (a .t2) (l .q) false in (
+      search needs,
+      point-falls b (l .q) g (list-point .last .0) (l .inv .1) (list-point .ensures .1),
+      search needs,
+      omega (arith, point-count b (l .q) g (list-point .result) (list-point .ensures .0)),
+      upTo-next (listPoint (a .t2)) 40 (l .q) g _ _ (search needs) (both (pointOf b (l .q) g) _ _ (list-point .ensures .1) (list-point .ensures .0))
+          (l .inv .4),
+    )
 
 returns : tie.Need-returns Inv-loop μ-loop
-returns c = let e = upTo-done (listPoint (c .before .before .before .before .args .t2)) 40 (c .before .loop .q) (record { parents = c .before .loop .p; answer = c .before .loop .s }) _ (search needs) (c .before .loop .inv .4) in (ap (λ g. g .answer) e, ap (λ g. g .parents) e)
+returns c =
+    let l = c .before .loop in
+    let e = upTo-done (listPoint (c .before .before .before .before .args .t2)) 40 (l .q) (record { parents = l .p; answer = l .s }) _ (search needs) (l .inv .4) in
+    (ap (λ g. g .answer) e, ap (λ g. g .parents) e)
 
 pub list-points-spec : {M : Type 1} → statement M
 list-points-spec =

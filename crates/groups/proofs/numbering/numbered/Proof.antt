@@ -1,5 +1,6 @@
-use Rattle.groups.proofs.Laws.{numbered-has, numbered-new}
+-- A root's number is 40 or it has one. Assumes nothing.
 use borrow.Author.Needs.{needs}
+use Rattle.groups.proofs.Laws.{numbered-has, numbered-new}
 use Rattle.groups.proofs.numbering.numbered.Statement.{statement}
 use Rattle.groups.proofs.numbering.numbered.Tie as tie
 

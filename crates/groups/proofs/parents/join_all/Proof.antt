@@ -1,15 +1,16 @@
-use Rattle.sketch.specs.declared.Touched.{Touched}
-use Rattle.loops.specs.Turns.{fold, fold-next, fold-done}
-use Rattle.groups.specs.Touches.{numberAt, numbersOf}
-use Rattle.groups.specs.Parents.{Falls, joinTo, joinAll}
-use Rattle.groups.proofs.Forest.{join-falls}
-use lib.ListN.{length, getD, drop}
-use mathlib.Core.List.{List}
+-- Assumes nothing.
 use Prim.Native.Nat.{ℕ, _+_, _-_, _<_}
-use Rattle.groups.proofs.Laws.{number-at, numbers-length}
-use native.Mathlib.Omega.{arith}
+use mathlib.Core.List.{List}
 use mathlib.Core.Path.{_≡_, refl}
+use native.Mathlib.Omega.{arith}
 use borrow.Author.Needs.{needs}
+use lib.ListN.{length, getD, drop}
+use Rattle.loops.specs.Turns.{fold, fold-next, fold-done}
+use Rattle.sketch.specs.declared.Touched.{Touched}
+use Rattle.groups.specs.Parents.{Falls, joinTo, joinAll}
+use Rattle.groups.specs.Touches.{numberAt, numbersOf}
+use Rattle.groups.proofs.Forest.{join-falls}
+use Rattle.groups.proofs.Laws.{number-at, numbers-length}
 use Rattle.groups.proofs.parents.join_all.Statement.{statement}
 use Rattle.groups.proofs.parents.join_all.Tie as tie
 
@@ -39,10 +40,20 @@ join-requires : tie.Need-join-requires Inv-loop μ-loop
 join-requires c κs = c .before .before .before .loop .inv .1
 
 loop-again : tie.Need-loop-again Inv-loop μ-loop
-loop-again c = (search needs, turn-falls (c .before .before .before .before .before .before .before .before .before .before .args .t2) (c .before .before .before .before .before .before .loop .j) (c .before .before .before .before .before .before .loop .p) _ (c .before .before .before .before .before .before .loop .inv .1) (c .before .before .join .ensures), turn-fold (c .before .before .before .before .before .before .before .before .before .before .args .t2) (c .before .before .before .before .before .before .loop .j) (c .before .before .before .before .before .before .loop .p) _ _ (omega (arith, numbers-length (c .before .before .before .before .before .before .before .before .before .before .args .t2))) (c .before .before .join .ensures) (c .before .before .before .before .before .before .loop .inv .2))
+loop-again c =
+    let a = c .before .before .before .before .before .before .before .before .before .before .args in
+    let l = c .before .before .before .before .before .before .loop in
+    let join = c .before .before .join in (
+      search needs,
+      turn-falls (a .t2) (l .j) (l .p) _ (l .inv .1) (join .ensures),
+      turn-fold (a .t2) (l .j) (l .p) _ _ (omega (arith, numbers-length (a .t2))) (join .ensures) (l .inv .2),
+    )
 
 returns : tie.Need-returns Inv-loop μ-loop
-returns c = fold-done (joinTo (getD (numbersOf (c .before .before .before .before .before .args .t2)) 0 0)) (numbersOf (c .before .before .before .before .before .args .t2)) (c .before .loop .j) (c .before .loop .p) _ (omega (arith, numbers-length (c .before .before .before .before .before .args .t2))) (c .before .loop .inv .2)
+returns c =
+    let a = c .before .before .before .before .before .args in
+    let l = c .before .loop in
+    fold-done (joinTo (getD (numbersOf (a .t2)) 0 0)) (numbersOf (a .t2)) (l .j) (l .p) _ (omega (arith, numbers-length (a .t2))) (l .inv .2)
 
 pub join-all-spec : {M : Type 1} → statement M
 join-all-spec =

@@ -1,7 +1,8 @@
+-- Past the end there is the default. Assumes nothing.
 use mathlib.Core.Path.{sym}
+use borrow.Author.Needs.{needs}
 use lib.ListN.{List·getD-eq-default}
 use Rattle.groups.proofs.Forest.{getD-any}
-use borrow.Author.Needs.{needs}
 use Rattle.groups.proofs.parents.up.Statement.{statement}
 use Rattle.groups.proofs.parents.up.Tie as tie
 

@@ -1,14 +1,15 @@
+-- One call after another; what `root` requires, no call breaks. Assumes nothing.
+use Prim.Native.Nat.{ℕ}
 use mathlib.Core.List.{List}
 use mathlib.Core.Path.{_≡_}
-use Prim.Native.Nat.{ℕ}
+use borrow.Author.Needs.{needs}
 use lib.ListN.{length}
-use Rattle.groups.proofs.Forest.{alone-falls}
-use Rattle.groups.specs.Parents.{Falls, alone, joined}
-use Rattle.groups.specs.Touches.{touchedBy}
-use Rattle.groups.proofs.Laws.{joined-falls, points-falls, groups-are}
 use Rattle.sketch.specs.Parts.{equationsOf}
 use Rattle.sketch.specs.declared.Build.{Build}
-use borrow.Author.Needs.{needs}
+use Rattle.groups.specs.Parents.{Falls, alone, joined}
+use Rattle.groups.specs.Touches.{touchedBy}
+use Rattle.groups.proofs.Forest.{alone-falls}
+use Rattle.groups.proofs.Laws.{joined-falls, points-falls, groups-are}
 use Rattle.groups.proofs.sweeps.groups.Statement.{statement}
 use Rattle.groups.proofs.sweeps.groups.Tie as tie
 
@@ -20,13 +21,30 @@ join-equations-requires : tie.Need-join-equations-requires
 join-equations-requires c κs = rw (c .before .before .before .each-alone .ensures) alone-falls
 
 list-points-requires : tie.Need-list-points-requires
-list-points-requires c κs = after (c .before .before .before .before .before .before .before .before .args .b) (c .before .before .before .before .before .before .before .each-alone .result) _ (c .before .before .before .before .before .before .before .each-alone .ensures) (c .before .before .before .join-equations .ensures)
+list-points-requires c κs =
+    let a = c .before .before .before .before .before .before .before .before .args in
+    let each-alone = c .before .before .before .before .before .before .before .each-alone in
+    after (a .b) (each-alone .result) _ (each-alone .ensures) (c .before .before .before .join-equations .ensures)
 
 list-equations-requires : tie.Need-list-equations-requires
-list-equations-requires c κs = points-falls _ (c .before .before .before .before .before .before .before .before .join-equations .last .0) _ (after (c .before .before .before .before .before .before .before .before .before .before .before .before .before .args .b) (c .before .before .before .before .before .before .before .before .before .before .before .before .each-alone .result) _ (c .before .before .before .before .before .before .before .before .before .before .before .before .each-alone .ensures) (c .before .before .before .before .before .before .before .before .join-equations .ensures)) (c .before .before .before .before .list-points .ensures .1)
+list-equations-requires c κs =
+    let a = c .before .before .before .before .before .before .before .before .before .before .before .before .before .args in
+    let each-alone = c .before .before .before .before .before .before .before .before .before .before .before .before .each-alone in
+    let join-equations = c .before .before .before .before .before .before .before .before .join-equations in
+    points-falls _ (join-equations .last .0) _ (after (a .b) (each-alone .result) _ (each-alone .ensures) (join-equations .ensures))
+    (c .before .before .before .before .list-points .ensures .1)
 
 returns : tie.Need-returns
-returns c = groups-are (touchedBy (c .before .before .before .before .before .before .before .before .before .before .before .before .before .before .before .args .b)) (length (equationsOf (c .before .before .before .before .before .before .before .before .before .before .before .before .before .before .before .args .b))) (c .before .before .before .before .before .before .before .tied-points .result) (c .before .before .before .before .before .before .before .before .before .before .before .before .before .before .each-alone .result) (c .before .before .before .before .before .before .before .before .before .before .join-equations .last .0) (c .before .before .before .before .before .before .list-points .last .0) (c .before .list-equations .result) (c .before .before .before .before .before .before .list-points .result) (c .before .list-equations .ensures) (c .before .before .before .before .before .before .list-points .ensures .0) (c .before .before .before .before .before .before .list-points .ensures .1) (c .before .before .before .before .before .before .before .tied-points .ensures) (c .before .before .before .before .before .before .before .before .before .before .join-equations .ensures) (c .before .before .before .before .before .before .before .before .before .before .before .before .before .before .each-alone .ensures)
+returns c =
+    let a = c .before .before .before .before .before .before .before .before .before .before .before .before .before .before .before .args in
+    let each-alone = c .before .before .before .before .before .before .before .before .before .before .before .before .before .before .each-alone in
+    let join-equations = c .before .before .before .before .before .before .before .before .before .before .join-equations in
+    let tied-points = c .before .before .before .before .before .before .before .tied-points in
+    let list-points = c .before .before .before .before .before .before .list-points in
+    let list-equations = c .before .list-equations in
+    groups-are (touchedBy (a .b)) (length (equationsOf (a .b))) (tied-points .result) (each-alone .result) (join-equations .last .0)
+    (list-points .last .0) (list-equations .result) (list-points .result) (list-equations .ensures) (list-points .ensures .0)
+    (list-points .ensures .1) (tied-points .ensures) (join-equations .ensures) (each-alone .ensures)
 
 pub groups-spec : {M : Type 1} → statement M
 groups-spec =

@@ -1,6 +1,7 @@
+-- Past the end a store changes nothing. Assumes nothing.
 use mathlib.Core.Path.{sym}
-use lib.Seq.{set-out}
 use borrow.Author.Needs.{needs}
+use lib.Seq.{set-out}
 use Rattle.groups.proofs.tied.tie.Statement.{statement}
 use Rattle.groups.proofs.tied.tie.Tie as tie
 

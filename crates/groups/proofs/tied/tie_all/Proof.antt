@@ -1,15 +1,16 @@
-use Rattle.sketch.specs.declared.Touched.{Touched}
-use Rattle.loops.specs.Turns.{fold, fold-next, fold-done}
-use lib.ListN.{length, set, drop}
+-- Assumes nothing.
 use Prim.Native.Nat.{ℕ, _+_, _-_, _≤_, _<_}
-use Rattle.groups.specs.Touches.{numberAt, numbersOf}
-use Rattle.groups.specs.Tied.{tieTo, tieAll}
-use mathlib.Core.List.{List}
 use mathlib.Core.Bool.{Bool, true}
-use Rattle.groups.proofs.Laws.{number-at, numbers-length}
-use native.Mathlib.Omega.{arith}
+use mathlib.Core.List.{List}
 use mathlib.Core.Path.{_≡_, refl}
+use native.Mathlib.Omega.{arith}
 use borrow.Author.Needs.{needs}
+use lib.ListN.{length, set, drop}
+use Rattle.loops.specs.Turns.{fold, fold-next, fold-done}
+use Rattle.sketch.specs.declared.Touched.{Touched}
+use Rattle.groups.specs.Tied.{tieTo, tieAll}
+use Rattle.groups.specs.Touches.{numberAt, numbersOf}
+use Rattle.groups.proofs.Laws.{number-at, numbers-length}
 use Rattle.groups.proofs.tied.tie_all.Statement.{statement}
 use Rattle.groups.proofs.tied.tie_all.Tie as tie
 
@@ -28,10 +29,16 @@ unfolding tieAll
 loop-holds c = (search needs, search needs, refl)
 
 loop-again : tie.Need-loop-again Inv-loop μ-loop
-loop-again c = (search needs, search needs, turn (c .before .before .before .before .before .before .before .before .before .args .t2) (c .before .before .before .before .before .before .loop .j) (c .before .before .before .before .before .before .loop .s) _ _ (omega (arith, numbers-length (c .before .before .before .before .before .before .before .before .before .args .t2))) (c .before .before .tie .ensures) (c .before .before .before .before .before .before .loop .inv .2))
+loop-again c =
+    let a = c .before .before .before .before .before .before .before .before .before .args in
+    let l = c .before .before .before .before .before .before .loop in
+    (search needs, search needs, turn (a .t2) (l .j) (l .s) _ _ (omega (arith, numbers-length (a .t2))) (c .before .before .tie .ensures) (l .inv .2))
 
 returns : tie.Need-returns Inv-loop μ-loop
-returns c = fold-done tieTo (numbersOf (c .before .before .before .before .args .t2)) (c .before .loop .j) (c .before .loop .s) _ (omega (arith, numbers-length (c .before .before .before .before .args .t2))) (c .before .loop .inv .2)
+returns c =
+    let a = c .before .before .before .before .args in
+    let l = c .before .loop in
+    fold-done tieTo (numbersOf (a .t2)) (l .j) (l .s) _ (omega (arith, numbers-length (a .t2))) (l .inv .2)
 
 pub tie-all-spec : {M : Type 1} → statement M
 tie-all-spec =
