@@ -1,7 +1,6 @@
 -- What a slice holds while a loop writes it from the front, one place a turn.
 --     fill     every place gets the value v
 --     into     the places of t get g of what l holds there, in turn
---     map      the same in place: every place of l gets g of what it held
 -- Each has a law for a turn (-next) and for the end (-done, -whole). Assumes nothing.
 use Prim.Native.Nat.{ℕ, zero, suc, _+_, _≤_, _<_}
 use mathlib.Core.List.{List, [], _∷_, _++_, map, append-nil}
@@ -10,7 +9,6 @@ use native.Mathlib.Nat.{not-suc-le-zero, le-of-suc-le-suc, le-antisymm}
 use native.Mathlib.Numerals.{add-one}
 use native.Mathlib.Omega.{arith}
 use lib.ListN.{length, getD, take, drop, set, replicate, drop-of-length-le}
-use lib.Seq.{take-all}
 
 module _ {A : Type 0} where
   filled : (n : ℕ) (v : A) (l : List A) → n < length l → set (replicate n v ++ drop n l) n v ≡ replicate (suc n) v ++ drop (suc n) l
@@ -36,23 +34,5 @@ module _ {A B : Type 0} (g : A → B) where
       → s ≡ map g (take i l) ++ drop i t → set s i v ≡ map g (take (i + 1) l) ++ drop (i + 1) t
   into-next d l t s i v h k e q = rw (e, q, add-one) (gone d l t i h k)
 
-  pub into-done : (l : List A) (t s : List B) (i : ℕ) → length l ≤ i → i ≤ length l → s ≡ map g (take i l) ++ drop i t → s ≡ map g l ++ drop (length l) t
-  into-done l t s i h k q = q ∙ rw (take-all i l h, le-antisymm k h)
-
-  -- where t is as long as l
   pub into-whole : (l : List A) (t s : List B) (i : ℕ) → length t ≡ length l → length l ≤ i → i ≤ length l → s ≡ map g (take i l) ++ drop i t → s ≡ map g l
   into-whole l t s i e h k q = let all : length t ≤ length l = omega arith in into-done l t s i h k q ∙ rw (drop-of-length-le t all, append-nil)
-
-module _ {A : Type 0} (g : A → A) where
-  -- the place that is next still holds what it held
-  still : (d : A) (l : List A) (n : ℕ) → n < length l → getD (map g (take n l) ++ drop n l) n d ≡ getD l n d
-  still d [] n h = absurd (not-suc-le-zero h)
-  still d (x ∷ l) zero h = refl
-  still d (x ∷ l) (suc n) h = still d l n (le-of-suc-le-suc h)
-
-  pub map-next : (d : A) (l s : List A) (i : ℕ) (v : A) → i < length l → v ≡ g (getD s i d)
-      → s ≡ map g (take i l) ++ drop i l → set s i v ≡ map g (take (i + 1) l) ++ drop (i + 1) l
-  map-next d l s i v h e q = into-next g d l l s i v h h (e ∙ ap g (rw q (still d l i h))) q
-
-  pub map-done : (l s : List A) (i : ℕ) → length l ≤ i → i ≤ length l → s ≡ map g (take i l) ++ drop i l → s ≡ map g l
-  map-done l s i h k q = q ∙ rw (take-all i l h, drop-of-length-le l h, append-nil)
