@@ -9,6 +9,7 @@ use native.Mathlib.Nat.{not-suc-le-zero, le-of-suc-le-suc, le-antisymm}
 use native.Mathlib.Numerals.{add-one}
 use native.Mathlib.Omega.{arith}
 use lib.ListN.{length, getD, take, drop, set, replicate, drop-of-length-le}
+use lib.Seq.{take-all}
 
 module _ {A : Type 0} where
   filled : (n : ℕ) (v : A) (l : List A) → n < length l → set (replicate n v ++ drop n l) n v ≡ replicate (suc n) v ++ drop (suc n) l
@@ -34,5 +35,9 @@ module _ {A B : Type 0} (g : A → B) where
       → s ≡ map g (take i l) ++ drop i t → set s i v ≡ map g (take (i + 1) l) ++ drop (i + 1) t
   into-next d l t s i v h k e q = rw (e, q, add-one) (gone d l t i h k)
 
+  into-done : (l : List A) (t s : List B) (i : ℕ) → length l ≤ i → i ≤ length l → s ≡ map g (take i l) ++ drop i t → s ≡ map g l ++ drop (length l) t
+  into-done l t s i h k q = q ∙ rw (take-all i l h, le-antisymm k h)
+
+  -- where t is as long as l
   pub into-whole : (l : List A) (t s : List B) (i : ℕ) → length t ≡ length l → length l ≤ i → i ≤ length l → s ≡ map g (take i l) ++ drop i t → s ≡ map g l
   into-whole l t s i e h k q = let all : length t ≤ length l = omega arith in into-done l t s i h k q ∙ rw (drop-of-length-le t all, append-nil)
