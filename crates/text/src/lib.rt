@@ -1,14 +1,22 @@
 // The text of a job: from its bytes to a build (document 01, "The text"). Each reading takes a place and gives the next; what
 // fails gives a spoilt place, which stays spoilt, so that the form is judged once, where the reading ends.
+mod equations;
 mod fields;
+mod gauges;
 mod kinds;
+mod operands;
+mod rows;
 
 use plane::Vec2;
+use sketch::Active;
 use sketch::Contact;
 use sketch::Equation;
-use sketch::LineNo;
-use sketch::PointNo;
+use sketch::Line;
+use sketch::Measure;
+use sketch::Measured;
+use sketch::Point;
 use sketch::Rad;
+use sketch::State;
 use spelling::Cursor;
 
 // The kinds of an equation, before its fields are read.
@@ -42,16 +50,6 @@ pub struct KindRead {
     pub next: Cursor,
 }
 
-pub struct PointNoRead {
-    pub no: PointNo,
-    pub next: Cursor,
-}
-
-pub struct LineNoRead {
-    pub no: LineNo,
-    pub next: Cursor,
-}
-
 pub struct AxisRead {
     pub axis: usize,
     pub next: Cursor,
@@ -74,5 +72,35 @@ pub struct VecRead {
 
 pub struct EquationRead {
     pub equation: Equation,
+    pub next: Cursor,
+}
+
+pub struct MeasureRead {
+    pub measure: Measure,
+    pub next: Cursor,
+}
+
+pub struct StateRead {
+    pub state: State,
+    pub next: Cursor,
+}
+
+pub struct PointRead {
+    pub point: Point,
+    pub next: Cursor,
+}
+
+pub struct LineRead {
+    pub line: Line,
+    pub next: Cursor,
+}
+
+pub struct ActiveRead {
+    pub active: Active,
+    pub next: Cursor,
+}
+
+pub struct MeasuredRead {
+    pub measured: Measured,
     pub next: Cursor,
 }

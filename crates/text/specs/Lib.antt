@@ -1,0 +1,5 @@
+pub mod Kinds
+pub mod Fields
+pub mod Equations
+pub mod Measures
+pub mod Lines
