@@ -3,3 +3,5 @@ pub mod Fields
 pub mod Equations
 pub mod Measures
 pub mod Lines
+pub mod Items
+pub mod Reader

@@ -3,13 +3,18 @@
 mod equations;
 mod fields;
 mod gauges;
+mod items;
 mod kinds;
 mod operands;
+mod reader;
 mod rows;
 
 use plane::Vec2;
+pub use reader::read;
 use sketch::Active;
+use sketch::Build;
 use sketch::Contact;
+use sketch::Ending;
 use sketch::Equation;
 use sketch::Line;
 use sketch::Measure;
@@ -103,4 +108,50 @@ pub struct ActiveRead {
 pub struct MeasuredRead {
     pub measured: Measured,
     pub next: Cursor,
+}
+
+// The items of one sort; those past the count are blank.
+pub struct PointsRead {
+    pub points: [Point; 40],
+    pub next: Cursor,
+}
+
+pub struct LinesRead {
+    pub lines: [Line; 40],
+    pub next: Cursor,
+}
+
+pub struct EquationsRead {
+    pub equations: [Active; 40],
+    pub next: Cursor,
+}
+
+pub struct MeasuresRead {
+    pub measures: [Measured; 20],
+    pub next: Cursor,
+}
+
+pub struct CountsRead {
+    pub points: usize,
+    pub lines: usize,
+    pub equations: usize,
+    pub measures: usize,
+    pub next: Cursor,
+}
+
+pub struct BuildRead {
+    pub build: Build,
+    pub next: Cursor,
+}
+
+// A text was read, or it ends the job.
+pub enum Outcome {
+    Read,
+    Ends(Ending),
+}
+
+// The build that a text holds. An array cannot stand in an enum, so the build is beside the outcome; after a refusal it holds nothing.
+pub struct Reading {
+    pub outcome: Outcome,
+    pub build: Build,
 }
