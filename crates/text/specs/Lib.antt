@@ -5,3 +5,5 @@ pub mod Measures
 pub mod Lines
 pub mod Items
 pub mod Reader
+pub mod Given
+pub mod Cases

@@ -32,10 +32,10 @@ module _ (s : List ℕ) (n : WholeRead) (b d : ℕ) where
   law-no eb ed t = rw (sym eb, sym ed, t)
 
 mul-t13 : tie.Need-mul-t13
-mul-t13 c = record { fits = room (c .before .digit .result) (c .before .before .before .before .before .args .n .value) (leb 1 (c .before .before .before .before .before .args .n .value)) (c .if1 .taken) .0 }
+mul-t13 c = record { fits = room (c .before .digit .result) (c .before .before .before .before .before .args .n .value) (leb _ (c .before .before .before .before .before .args .n .value)) (c .if1 .taken) .0 }
 
 add-t14 : tie.Need-add-t14
-add-t14 c = record { fits = room (c .before .digit .result) (c .before .before .before .before .before .args .n .value) (leb 1 (c .before .before .before .before .before .args .n .value)) (c .if1 .taken) .1 }
+add-t14 c = record { fits = room (c .before .digit .result) (c .before .before .before .before .before .args .n .value) (leb _ (c .before .before .before .before .before .args .n .value)) (c .if1 .taken) .1 }
 
 returns : tie.Need-returns
 returns c = law-yes _ _ _ _ _ (c .before .before .before .byte .ensures) (c .before .before .digit .ensures) (c .before .if1 .taken) (c .further .ensures)
