@@ -130,14 +130,18 @@ fn compare(case: &Case) -> [usize; 2] {
     count
 }
 
-fn nanoseconds(times: usize, mut f: impl FnMut()) -> f64 {
-    (0..7)
-        .map(|_| {
-            let t = Instant::now();
-            f();
-            t.elapsed().as_nanos() as f64 / times as f64
-        })
-        .fold(f64::INFINITY, f64::min)
+/// The least time of one call, of many short runs; the two sides take turns, so that they share the machine's weather.
+fn beside(mut ours: impl FnMut(usize), mut rust: impl FnMut(usize)) -> [f64; 2] {
+    let (times, mut least) = (200, [f64::INFINITY; 2]);
+    for _ in 0..400 {
+        let start = Instant::now();
+        ours(times);
+        let middle = Instant::now();
+        rust(times);
+        let both = [middle - start, middle.elapsed()].map(|t| t.as_nanos() as f64 / times as f64);
+        least = [least[0].min(both[0]), least[1].min(both[1])];
+    }
+    least
 }
 
 fn time(ch: &mut Chance) {
@@ -145,12 +149,15 @@ fn time(ch: &mut Chance) {
     case.chosen = (0..40).collect();
     let mut rig = case.rig();
     let (mut r, mut j, mut v) = (vec![0.0; 90], vec![0.0; 6400], Vec::new());
-    let times = 3000;
-    let ours = nanoseconds(times, || { case.residuals(&mut r, times); });
-    let rust = nanoseconds(times, || (0..times).for_each(|_| rig.residuals(black_box(&case.x), black_box(&mut v))));
+    let [ours, rust] = beside(
+        |times| _ = case.residuals(&mut r, times),
+        |times| (0..times).for_each(|_| rig.residuals(black_box(&case.x), black_box(&mut v))),
+    );
     println!("residual sweep, 40 equations: {ours:.0} ns, the Rust's {rust:.0} ns");
-    let ours = nanoseconds(times, || { case.jacobian(&mut j, times); });
-    let rust = nanoseconds(times, || (0..times).for_each(|_| { black_box(rig.jacobian(black_box(&case.x), black_box(&mut v))); }));
+    let [ours, rust] = beside(
+        |times| _ = case.jacobian(&mut j, times),
+        |times| (0..times).for_each(|_| drop(black_box(rig.jacobian(black_box(&case.x), black_box(&mut v))))),
+    );
     println!("Jacobian sweep, 40 equations: {ours:.0} ns, the Rust's {rust:.0} ns");
 }
 
