@@ -5,13 +5,13 @@ use mathlib.Core.Path.{_≡_, refl, sym, ap, _∙_}
 use native.Mathlib.Nat.{mul-le-mul-right}
 use native.Mathlib.Omega.{arith}
 use lib.Ieee.{Float}
-use lib.ListN.{length, set, getD, drop}
+use lib.ListN.{length, set, getD, drop, List·getD-eq-default}
 use Rattle.loops.specs.Turns.{fold, fold-next}
 use Rattle.plane.specs.declared.Vec2.{Vec2}
 use Rattle.sketch.specs.declared.Active.{Active}
 use Rattle.sketch.specs.declared.Equation.{Equation}
 use Rattle.sketch.specs.declared.Line.{Line}
-use Rattle.rows.specs.Dense.{Laid, laid, equationAt, nextValue, nextRow, rowInto, rowsAt, valuesNext, rowsNext}
+use Rattle.rows.specs.Dense.{Laid, laid, heldActive, equationAt, nextValue, nextRow, rowInto, rowsAt, valuesNext, rowsNext}
 use Rattle.rows.specs.Entries.{Row, noRow, valuesOf, gradientOf, gradientsOf, entriesIn}
 use Rattle.rows.specs.Kinds.{rowsOfEquation}
 use Rattle.rows.specs.Located.{atOf}
@@ -132,3 +132,23 @@ module _ (es : List Active) (ls : List Line) (P : List ℕ) (x : List Float) (ch
       → fold (rowsNext es ls P x C n) (laid row j) (drop i chosen) ≡ R → fold (rowsNext es ls P x C n) (laid row′ j′) (drop (i + 1) chosen) ≡ R
   unfolding rowsNext rowsAt
   rows-turn C n row row′ j j′ e R p q t = fold-next 0 (rowsNext es ls P x C n) chosen i (laid row j) (laid row′ j′) R h (rw p at q) t
+
+  -- past the last equation there is `Held`
+  held : length es ≤ getD chosen i 0 → Equation.Held ≡ equationAt es (getD chosen i 0)
+  held k = sym (ap (λ (a : Active). a .equation) (List·getD-eq-default es heldActive {n = getD chosen i 0} k))
+
+  no-value : (row : ℕ) (r : List Float) → laid row r ≡ fold nextValue (laid row r) (rowsOfEquation ls (atOf P x) Equation.Held)
+  unfolding fold rowsOfEquation
+  no-value row r = refl
+
+  no-row : (C : List ℕ) (n row : ℕ) (j : List Float) → laid row j ≡ fold (nextRow P C n) (laid row j) (rowsOfEquation ls (atOf P x) Equation.Held)
+  unfolding fold rowsOfEquation
+  no-row C n row j = refl
+
+  pub values-past : (row : ℕ) (r : List Float) (R : Laid) → length es ≤ getD chosen i 0
+      → fold (valuesNext es ls P x) (laid row r) (drop i chosen) ≡ R → fold (valuesNext es ls P x) (laid row r) (drop (i + 1) chosen) ≡ R
+  values-past row r R k t = values-turn row row r r Equation.Held R (held k) (no-value row r) t
+
+  pub rows-past : (C : List ℕ) (n row : ℕ) (j : List Float) (R : Laid) → length es ≤ getD chosen i 0
+      → fold (rowsNext es ls P x C n) (laid row j) (drop i chosen) ≡ R → fold (rowsNext es ls P x C n) (laid row j) (drop (i + 1) chosen) ≡ R
+  rows-past C n row j R k t = rows-turn C n row row j j Equation.Held R (held k) (no-row C n row j) t

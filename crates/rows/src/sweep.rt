@@ -2,7 +2,7 @@
 ghost use mathlib.Core.Path.{_≡_};
 ghost use Prim.Native.Nat.{_+_, _≤_};
 ghost use Rattle.loops.specs.Turns.{fold};
-ghost use Rattle.rows.specs.Dense.{laid, equationAt, nextValue, nextRow, columnOf, jacobianOf};
+ghost use Rattle.rows.specs.Dense.{laid, nextValue, nextRow, columnOf, jacobianOf};
 ghost use Rattle.rows.specs.Kinds.{rowsOfEquation};
 ghost use Rattle.rows.specs.Located.{atOf};
 use crate::dense::row_into;
@@ -11,18 +11,6 @@ use crate::slope::gradients;
 use sketch::Active;
 use sketch::Equation;
 use sketch::Line;
-
-// Past the end there is `Held`, which has no row.
-fn equation_at(equations: [Active; 40], k: usize) -> Equation
-    ensures { λ r. ⌜ r ≡ equationAt equations k ⌝ }
-{
-    if k < 40 {
-        let a = equations[k];
-        a.equation
-    } else {
-        Equation::Held
-    }
-}
 
 // Puts an equation's residuals from `row` on, and answers the row after them.
 fn values_into(
@@ -95,7 +83,13 @@ pub fn residuals(
     }
     let mut row = 0;
     for i in 0..chosen.len() {
-        let e = equation_at(equations, chosen[i]);
+        let k = chosen[i];
+        // Past the end there is `Held`, which has no row.
+        if 40 <= k {
+            continue;
+        }
+        let a = equations[k];
+        let e = a.equation;
         row = values_into(r, row, e, lines, places, x);
     }
     row
@@ -120,7 +114,12 @@ pub fn jacobian(
     }
     let mut row = 0;
     for i in 0..chosen.len() {
-        let e = equation_at(equations, chosen[i]);
+        let k = chosen[i];
+        if 40 <= k {
+            continue;
+        }
+        let a = equations[k];
+        let e = a.equation;
         row = rows_into(j, row, e, lines, places, columns, n, x);
     }
     row

@@ -1,23 +1,25 @@
--- What the equations that are left store gives the whole column. Assumes nothing.
+-- What the equations that are left store gives the whole. Assumes nothing.
 use Prim.Native.Nat.{_≤_, _*_, _-_}
-use mathlib.Core.Path.{_≡_, refl}
-use borrow.Author.Needs.{needs}
+use mathlib.Core.Path.{_≡_, refl, ap}
 use borrow.Author.Tests.{lt-ltb, le-ltb}
+use borrow.Author.Needs.{needs}
 use lib.ListN.{length, drop}
 use Rattle.loops.specs.Picks.{pick-yes, pick-no}
 use Rattle.loops.specs.Turns.{fold, fold-done}
-use Rattle.rows.specs.Dense.{laid, valuesNext, columnOf}
-use Rattle.rows.proofs.Held.{values-turn}
+use Rattle.sketch.specs.declared.Active.{Active}
+use Rattle.rows.specs.Dense.{laid, heldActive, valuesNext, columnOf}
+use Rattle.rows.proofs.Held.{values-turn, values-past}
+use Rattle.rows.proofs.Taken.{any-default}
 use Rattle.rows.proofs.sweep.residuals.Statement.{statement}
 use Rattle.rows.proofs.sweep.residuals.Tie as tie
 
 abbrev Inv-loop : tie.InvT-loop
-Inv-loop equations lines chosen places x r₀ row₀ i₀ i-end r row i =
+Inv-loop lines chosen places x r₀ equations row₀ i₀ i-end r row i =
     (i ≤ i-end) × (row ≤ 2 * i) × (length r ≡ length r₀)
     × (fold (valuesNext equations lines places x) (laid row r) (drop i chosen) ≡ fold (valuesNext equations lines places x) (laid 0 r₀) chosen)
 
 abbrev μ-loop : tie.MeasureT-loop
-μ-loop equations lines chosen places x r₀ row₀ i₀ i-end r row i = i-end - i
+μ-loop lines chosen places x r₀ equations row₀ i₀ i-end r row i = i-end - i
 
 returns : tie.Need-returns Inv-loop μ-loop
 unfolding columnOf
@@ -28,13 +30,24 @@ loop-holds c = (search needs, search needs, refl, refl)
 
 loop-again : tie.Need-loop-again Inv-loop μ-loop
 loop-again c =
-    let a = c .before .before .before .before .before .before .before .before .before .before .before .before .before .args in
-    let l = c .before .before .before .before .before .before .before .loop in
+    let a = c .before .before .before .before .before .before .before .before .before .args in
+    let l = c .before .before .before .loop in (
+      search needs,
+      search needs,
+      search needs,
+      values-past (a .t1) (a .lines) (a .places .now) (a .x .now) (a .chosen .now) (l .i) (search needs) _ _ _ (search needs) (l .inv .3),
+    )
+
+loop-again-2 : tie.Need-loop-again-2 Inv-loop μ-loop
+loop-again-2 c =
+    let a = c .before .before .before .before .before .before .before .before .before .before .before .before .before .before .args in
+    let l = c .before .before .before .before .before .before .before .before .loop in
     let v = c .before .before .values-into .ensures in (
       search needs,
       search needs,
       search needs,
-      values-turn (a .equations) (a .lines) (a .places .now) (a .x .now) (a .chosen .now) (l .i) (search needs) _ _ _ _ _ _ (c .before .before .before .before .equation-at .ensures) (v .0) (l .inv .3),
+      values-turn (a .t1) (a .lines) (a .places .now) (a .x .now) (a .chosen .now) (l .i) (search needs) _ _ _ _ _ _
+          (ap (λ (e : Active). e .equation) (any-default (a .t1) _ _ heldActive (search needs))) (v .0) (l .inv .3),
     )
 
 returns-2 : tie.Need-returns-2 Inv-loop μ-loop
@@ -42,7 +55,7 @@ unfolding columnOf
 returns-2 c =
     let a = c .before .before .before .before .before .before .before .args in
     pick-no _ _ _ _ (le-ltb _ _ (c .before .before .if1 .left))
-    (fold-done (valuesNext (a .equations) (a .lines) (a .places .now) (a .x .now)) (a .chosen .now) (c .before .loop .i) _ _ (search needs) (c .before .loop .inv .3))
+    (fold-done (valuesNext (a .t1) (a .lines) (a .places .now) (a .x .now)) (a .chosen .now) (c .before .loop .i) _ _ (search needs) (c .before .loop .inv .3))
 
 pub residuals-spec : {M : Type 1} → statement M
 residuals-spec =
@@ -54,10 +67,14 @@ residuals-spec =
     loop-holds
     (λ c. search needs)
     (λ c. search needs)
-    (λ c κs. search needs)
-    (λ c κs. search needs)
     (λ c. search needs)
     (λ c. search needs)
     loop-again
+    (λ c. search needs)
+    (λ c. search needs)
+    (λ c κs. search needs)
+    (λ c. search needs)
+    (λ c. search needs)
+    loop-again-2
     (λ c. search needs)
     returns-2)

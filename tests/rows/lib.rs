@@ -1,0 +1,3 @@
+
+// Appended by tests/rows.
+pub use equations::sweeps::Rig;
