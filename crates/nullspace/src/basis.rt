@@ -40,7 +40,7 @@ fn vector(e: &mut [f64], n: usize, v: &[f64], rank: usize, j: usize)
 }
 
 // The vectors one after another at the head of `out`.
-pub fn vectors(out: &mut [f64], v: &[f64], n: usize, rank: usize)
+pub(crate) fn vectors(out: &mut [f64], v: &[f64], n: usize, rank: usize)
     requires { ⌜ ((rank ≤ n) × (n * n ≤ length (now out))) × (rank * n ≤ length (now v)) ⌝ }
     ensures { λ _. ⌜ now (out .exit) ≡ basisOf n rank (now (v .entry)) ++ drop ((n - rank) * n) (now (out .entry)) ⌝ }
 {

@@ -154,7 +154,7 @@ fn least(a: usize, b: usize) -> usize
 }
 
 // Makes reflectors of the columns, as many as the rank, and answers the rank.
-pub fn decompose(w: &mut [f64], rows: usize, n: usize) -> usize
+pub(crate) fn decompose(w: &mut [f64], rows: usize, n: usize) -> usize
     requires { ⌜ rows * n ≤ length (now w) ⌝ }
     ensures { λ r. ⌜ Decomposes rows n (now (w .entry)) (now (w .exit)) r ⌝ }
 {

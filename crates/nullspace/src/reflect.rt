@@ -46,7 +46,7 @@ fn reflect_row(t: &mut [f64], n: usize, vv: f64, j: usize)
 }
 
 // Each of the `m` rows but the first, which is the reflector.
-pub fn reflect_rows(t: &mut [f64], n: usize, m: usize, vv: f64)
+pub(crate) fn reflect_rows(t: &mut [f64], n: usize, m: usize, vv: f64)
     requires { ⌜ m * n ≤ length (now t) ⌝ }
     ensures { λ _. ⌜ now (t .exit) ≡ reflectedBy n m vv (now (t .entry)) ⌝ }
 {
@@ -92,7 +92,7 @@ fn less_all(v: &[f64], n: usize, f: f64, c: &mut [f64])
     }
 }
 
-pub fn reflect(v: &[f64], n: usize, c: &mut [f64])
+pub(crate) fn reflect(v: &[f64], n: usize, c: &mut [f64])
     requires { ⌜ (length (now v) ≡ n) × (length (now c) ≡ n) ⌝ }
     ensures { λ _. ⌜ now (c .exit) ≡ reflectOf n (now (v .entry)) (norm2Of (now (v .entry))) (now (c .entry)) ⌝ }
 {

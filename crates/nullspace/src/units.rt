@@ -43,7 +43,7 @@ fn unit_row(row: &[f64], to: &mut [f64])
     scale(row, root::sqrt(solver::norm2(row)), to);
 }
 
-pub fn unit_rows(m: &[f64], rows: usize, n: usize, w: &mut [f64])
+pub(crate) fn unit_rows(m: &[f64], rows: usize, n: usize, w: &mut [f64])
     requires { ⌜ (rows * n ≤ length (now m)) × (length (now w) ≡ rows * n) ⌝ }
     ensures { λ _. ⌜ now (w .exit) ≡ unitRows rows n (now (m .entry)) ⌝ }
 {

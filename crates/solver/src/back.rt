@@ -19,7 +19,7 @@ fn weight(a: &[f64], y: &[f64], n: usize, r: usize) -> f64
 }
 
 // A place of `b` from row `r` on holds the answer, one before it still the right side.
-pub fn substitute(a: &[f64], b: &mut [f64], n: usize)
+pub(crate) fn substitute(a: &[f64], b: &mut [f64], n: usize)
     requires { ⌜ (n * n ≤ length (now a)) × (length (now b) ≡ n) ⌝ }
     ensures { λ _. ⌜ now (b .exit) ≡ backOf n (sys (now (a .entry)) (now (b .entry))) ⌝ }
 {
@@ -30,7 +30,7 @@ pub fn substitute(a: &[f64], b: &mut [f64], n: usize)
     }
 }
 
-pub fn all_finite(y: &[f64]) -> bool
+pub(crate) fn all_finite(y: &[f64]) -> bool
     ensures { λ r. ⌜ r ≡ every finite (now (y .entry)) ⌝ }
 {
     for i in 0..y.len() {

@@ -45,7 +45,7 @@ fn clear_row(a: &mut [f64], b: &mut [f64], n: usize, col: usize, p: f64, r: usiz
 }
 
 // Clears column `col` in every row after `col`.
-pub fn clear_below(a: &mut [f64], b: &mut [f64], n: usize, col: usize)
+pub(crate) fn clear_below(a: &mut [f64], b: &mut [f64], n: usize, col: usize)
     requires { ⌜ (col < n) × ((n * n ≤ length (now a)) × (n ≤ length (now b))) ⌝ }
     ensures { λ _. ⌜ sys (now (a .exit)) (now (b .exit)) ≡ belowOf n col (sys (now (a .entry)) (now (b .entry))) ⌝ }
 {

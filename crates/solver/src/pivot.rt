@@ -106,7 +106,7 @@ fn column(a: &mut [f64], b: &mut [f64], n: usize, scale: f64, col: usize) -> boo
 }
 
 // Brings the matrix to upper triangular form; false where it is singular.
-pub fn eliminate(a: &mut [f64], b: &mut [f64], n: usize) -> bool
+pub(crate) fn eliminate(a: &mut [f64], b: &mut [f64], n: usize) -> bool
     requires { ⌜ (n * n ≤ length (now a)) × (n ≤ length (now b)) ⌝ }
     ensures { λ r. ⌜ tried r (sys (now (a .exit)) (now (b .exit))) ≡ eliminatedOf n (sys (now (a .entry)) (now (b .entry))) ⌝ }
 {
