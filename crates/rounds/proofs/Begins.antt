@@ -1,0 +1,146 @@
+-- From what the calls of a fit's beginning promise to the definition. Assumes nothing.
+use Prim.Native.Nat.{ℕ, _+_, _*_, _≤_, _<_, _^_}
+use mathlib.Core.Bool.{Bool, true, false, _||_}
+use mathlib.Core.List.{List, _++_}
+use mathlib.Core.Path.{_≡_, refl, sym, ap, _∙_}
+use native.Mathlib.Nat.{le-refl, mul-le-mul}
+use native.Mathlib.Omega.{arith}
+use borrow.Author.Tests.{ltb-false, eq-eqb, ne-eqb}
+use lib.Dec.{ltb}
+use lib.Ieee.{Float}
+use lib.ListN.{length, take, drop}
+use lib.Seq.{take-at, length-take-le}
+use mir.Syntax.{w64}
+use mir.Val.{Fits}
+use Rattle.floats.specs.Lists.{copiedOf}
+use Rattle.rows.specs.Dense.{Laid, laid, columnOf}
+use Rattle.sketch.specs.declared.Active.{Active}
+use Rattle.sketch.specs.declared.Line.{Line}
+use Rattle.solver.specs.Sums.{norm2Of}
+use Rattle.rounds.specs.Column.{column-is, values-long, rows-few}
+use Rattle.rounds.specs.Held.{startedFit, endedOf}
+use Rattle.rounds.specs.Problem.{rowCount, valuesAt, jacobianAt, problemOf, stateOf}
+use Rattle.rounds.specs.Promise.{saying, answerOf, outcomeOf, tooMany, tooShort, zeroed, Solves}
+use Rattle.rounds.specs.Solve.{Problem, Outcome, converged, failed, within, roundsOf, solveOf}
+use Rattle.rounds.specs.declared.Ended.{Ended}
+use Rattle.rounds.specs.declared.Ending.the-variants.{TooMany, TooShort}
+use Rattle.rounds.specs.declared.Fit.{Fit}
+use Rattle.rounds.specs.declared.Solved.{Solved}
+use Rattle.rounds.proofs.Trials.{copied-whole}
+
+-- ---- converged at the start, nothing free, or the rounds
+
+module _ (P : Problem) (J : List Float → List Float) (x r : List Float) (own : r ≡ P .values x) (nf : ℕ) (long : length (P .free) ≡ nf) (w : Bool) (b : w ≡ within r) where
+  test : (v : Bool) → w ≡ v → within (P .values x) ≡ v
+  test v h = ap within (sym own) ∙ sym b ∙ h
+
+  pub opened-within : (f : Fit) (c : Float) → w ≡ true → f ≡ startedFit c → endedOf x (record { converged = true; fit = f }) ≡ solveOf P J x
+  unfolding solveOf
+  opened-within f c h e = rw (test true h, e)
+
+  pub opened-fixed : (f : Fit) (c : Float) → w ≡ false → nf ≡ 0 → f ≡ startedFit c → endedOf x (record { converged = false; fit = f }) ≡ solveOf P J x
+  unfolding solveOf
+  opened-fixed f c h z e = rw (test false h, long, eq-eqb nf 0 z, e)
+
+  pub opened-rounds : (f : Fit) (c : Float) (x′ : List Float) (d : Ended) → w ≡ false → (nf ≡ 0 → ⊥) → c ≡ norm2Of r → f ≡ startedFit c
+      → endedOf x′ d ≡ roundsOf P J 200 (stateOf x r f) → endedOf x′ d ≡ solveOf P J x
+  unfolding solveOf
+  opened-rounds f c x′ d h z ec ef q = rw (test false h, long, ne-eqb nf 0 z, ← own) (q ∙ rw (ef, ec))
+
+-- ---- the slices
+
+abbrev count : Laid → ℕ
+count (laid n r) = n
+
+abbrev laidIn : Laid → List Float
+laidIn (laid n r) = r
+
+module _ (es : List Active) (ls : List Line) (places chosen : List ℕ) (x r r′ : List Float) (n : ℕ) (few : length chosen ≤ 40) (long : length r ≡ 80)
+    (e : laid n r′ ≡ columnOf es ls places x chosen r) where
+  laid-out : laid n r′ ≡ laid (rowCount es chosen) (valuesAt es ls places chosen x ++ drop (rowCount es chosen) r)
+  laid-out = let room : rowCount es chosen ≤ length r = rw long (rows-few es chosen few) in e ∙ column-is es ls places chosen x r few room
+
+  pub counted : n ≡ rowCount es chosen
+  counted = ap count laid-out
+
+  pub at-most : n ≤ 80
+  at-most = rw counted (rows-few es chosen few)
+
+  pub values-first : take n r′ ≡ valuesAt es ls places chosen x
+  values-first =
+      rw (ap laidIn laid-out) (take-at (valuesAt es ls places chosen x) (drop (rowCount es chosen) r) n (values-long es ls places chosen x ∙ sym counted))
+
+pub table : (m n : ℕ) → m ≤ 80 → n ≤ 80 → m * n ≤ 6400
+table m n h k = mul-le-mul h k
+
+pub table-fits : (m n : ℕ) → m ≤ 80 → n ≤ 80 → Fits w64 (m * n)
+table-fits m n h k = let t = table m n h k in record { fits = omega arith }
+
+pub fits-in : (m n k : ℕ) → m ≤ 80 → n ≤ 80 → 6400 ≤ k → m * n ≤ k
+fits-in m n k h l t = let p = table m n h l in omega arith
+
+pub counted-outcome : (es : List Active) (ls : List Line) (places columns chosen free : List ℕ) (x : List Float) (n : ℕ) (o : Outcome) → n ≡ rowCount es chosen
+    → o ≡ solveOf (problemOf es ls places chosen free n) (jacobianAt es ls places chosen columns (length free)) x → o ≡ outcomeOf es ls places columns chosen free x
+counted-outcome es ls places columns chosen free x n o e h = rw e at h
+
+-- ---- the public call
+
+or-first : (a b : Bool) → (a || b) ≡ false → a ≡ false
+or-first false b h = refl
+or-first true b h = h
+
+or-second : (a b : Bool) → (a || b) ≡ false → b ≡ false
+or-second false b h = h
+or-second true b h = cc
+
+pub none-many : (chosen free x : ℕ) → (ltb 40 chosen || ltb 80 free || ltb 80 x) ≡ false → (chosen ≤ 40) × (free ≤ 80) × (x ≤ 80)
+none-many chosen free x h =
+    let p = or-first (ltb 40 chosen || ltb 80 free) (ltb 80 x) h in (
+      ltb-false 40 chosen (or-first (ltb 40 chosen) (ltb 80 free) p),
+      ltb-false 80 free (or-second (ltb 40 chosen) (ltb 80 free) p),
+      ltb-false 80 x (or-second (ltb 40 chosen || ltb 80 free) (ltb 80 x) h),
+    )
+
+pub none-short : (a b c : ℕ) → (ltb a 6400 || ltb b 6400 || ltb c 6400) ≡ false → (6400 ≤ a) × (6400 ≤ b) × (6400 ≤ c)
+none-short a b c h =
+    let p = or-first (ltb a 6400 || ltb b 6400) (ltb c 6400) h in (
+      ltb-false a 6400 (or-first (ltb a 6400) (ltb b 6400) p),
+      ltb-false b 6400 (or-second (ltb a 6400) (ltb b 6400) p),
+      ltb-false c 6400 (or-second (ltb a 6400 || ltb b 6400) (ltb c 6400) h),
+    )
+
+-- what was copied to the front of a room is there
+pub copied-front : (x room y : List Float) → length x ≤ length room → y ≡ copiedOf x (take (length x) room) → take (length x) (y ++ drop (length x) room) ≡ x
+copied-front x room y h e =
+    let same : y ≡ x = copied-whole x (take (length x) room) y (length-take-le (length x) room h) e in
+    rw same (take-at x (drop (length x) room) (length x) refl)
+
+-- and what is copied back from there
+pub copied-back : (y x rest x′ : List Float) → length y ≡ length x → x′ ≡ copiedOf (take (length x) (y ++ rest)) x → x′ ≡ y
+copied-back y x rest x′ l e = copied-whole y x x′ (sym l) (rw (take-at y rest (length x) l) at e)
+
+module _ (es : List Active) (ls : List Line) (places columns chosen free : List ℕ) (x a b c : List Float) where
+  pub refused-many : (s : Solved) → tooMany es ls places columns chosen free x a b c ≡ true → s ≡ saying TooMany 0 0
+      → Solves es ls places columns chosen free x a b c x a b c s
+  refused-many s h e = record { answer = rw (h, e); coordinates = rw h; jacobian = rw h; product = rw h; copy = rw h }
+
+  module _ (m : tooMany es ls places columns chosen free x a b c ≡ false) where
+    pub refused-short : (s : Solved) → tooShort es ls places columns chosen free x a b c ≡ true → s ≡ saying TooShort 0 0
+        → Solves es ls places columns chosen free x a b c x a b c s
+    refused-short s h e = record { answer = rw (m, h, e); coordinates = rw (m, h); jacobian = rw (m, h); product = rw (m, h); copy = rw (m, h) }
+
+    module _ (n : tooShort es ls places columns chosen free x a b c ≡ false) (here here′ a′ b′ c′ : List Float) (e : Ended) (s : Solved) (begins : here ≡ x)
+        (o : endedOf here′ e ≡ outcomeOf es ls places columns chosen free here) (ea : a′ ≡ zeroed (rowCount es chosen * length free) a)
+        (eb : b′ ≡ zeroed (rowCount es chosen * rowCount es chosen) b) (ec : c′ ≡ zeroed (rowCount es chosen * rowCount es chosen) c) (t : s ≡ answerOf e) where
+      came : endedOf here′ e ≡ outcomeOf es ls places columns chosen free x
+      came = rw begins at o
+
+      pub done-failed : e .converged ≡ false → Solves es ls places columns chosen free x a b c x a′ b′ c′ s
+      done-failed f =
+          let g : failed (e .fit .iterations) (e .fit .tries) ≡ outcomeOf es ls places columns chosen free x = rw f at came in
+          record { answer = rw (m, n, ← g, t, f); coordinates = rw (m, n, ← g); jacobian = rw (m, n, ea); product = rw (m, n, eb); copy = rw (m, n, ec) }
+
+      pub done-converged : (x′ : List Float) → e .converged ≡ true → x′ ≡ here′ → Solves es ls places columns chosen free x a b c x′ a′ b′ c′ s
+      done-converged x′ f ex =
+          let g : converged here′ (e .fit .iterations) (e .fit .tries) ≡ outcomeOf es ls places columns chosen free x = rw f at came in
+          record { answer = rw (m, n, ← g, t, f); coordinates = rw (m, n, ← g, ex); jacobian = rw (m, n, ea); product = rw (m, n, eb); copy = rw (m, n, ec) }

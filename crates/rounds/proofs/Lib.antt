@@ -1,0 +1,4 @@
+pub mod Trials
+pub mod Turn
+pub mod Around
+pub mod Begins

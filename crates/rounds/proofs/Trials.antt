@@ -1,0 +1,98 @@
+-- From what the calls of an attempt promise to the definition. Assumes nothing.
+use Prim.Native.Nat.{ℕ, _+_, _*_, _-_, _≤_}
+use mathlib.Core.Bool.{Bool, true, false, not, _&&_}
+use mathlib.Core.List.{List, [], _++_, append-nil}
+use mathlib.Core.Path.{_≡_, refl, sym, ap, _∙_}
+use native.Mathlib.Nat.{le-refl}
+use native.Mathlib.Omega.{arith}
+use borrow.Author.Tests.{le-leb, le-ltb, not-true, not-false}
+use lib.Dec.{leb}
+use lib.Ieee.{Float}
+use lib.ListN.{length, take, drop, length-append, length-drop, drop-of-length-le}
+use lib.Seq.{take-all, take-at}
+use Rattle.floats.specs.Lists.{copiedOf}
+use Rattle.loops.specs.Turns.{Try, go, stop, tried}
+use Rattle.normal.specs.Normal.{dampedOf, dampedIn, movedOf, movedIn}
+use Rattle.solver.specs.Promise.{Solves, answerOf, rightAfter, checked, found, orZeros, solved}
+use Rattle.solver.specs.Steps.{solutionOf}
+use Rattle.solver.specs.declared.Elimination.{Elimination}
+use Rattle.solver.specs.declared.Elimination.the-variants.{TooMany, TooShort}
+use Rattle.rounds.specs.Held.{isSolved, trialMade}
+use Rattle.rounds.specs.Solve.{Problem, Trial, trialOf}
+
+-- a list copied over one of its own length
+pub copied-whole : (from to z : List Float) → length to ≡ length from → z ≡ copiedOf from to → z ≡ from
+copied-whole from to z e h =
+    let l : length from ≤ length to = omega arith in
+    let k : length to ≤ length from = omega arith in
+    rw (h, take-all (length to) from l, drop-of-length-le to k, append-nil)
+
+-- an answer that was carried out
+answered : (n : ℕ) (S : Try (List Float)) (e : Elimination) (y t : List Float) → e ≡ found S → y ≡ orZeros n S ++ t → t ≡ [] → tried (isSolved e) y ≡ S
+answered n (go v) e y t p q r = rw (p, q, r, append-nil)
+answered n stop e y t p q r = rw p
+
+module _ {A : Type 0} (n : ℕ) (a b : List Float) (x y z : A) where
+  carried : n ≤ 80 → n * n ≤ length a → n ≤ length b → checked n a b x y z ≡ z
+  unfolding checked
+  carried h s t = rw (le-ltb 80 n h, le-leb (n * n) (length a) s, le-leb n (length b) t)
+
+module _ (n : ℕ) (mu m : Float) (a w w₁ : List Float) (h : n * n ≤ length a) (k : n * n ≤ length w) (e : w₁ ≡ dampedIn n mu m a w)
+    (kept : length w₁ ≡ length w) where
+  made : w₁ ≡ dampedOf n mu m (take (n * n) a) ++ drop (n * n) w
+  unfolding dampedIn
+  made = rw (e, le-leb (n * n) (length a) h, le-leb (n * n) (length w) k)
+
+  head-long : length (dampedOf n mu m (take (n * n) a)) ≡ n * n
+  head-long =
+      let l : length (dampedOf n mu m (take (n * n) a)) + (length w - n * n) ≡ length w =
+      sym (length-append (dampedOf n mu m (take (n * n) a)) (drop (n * n) w) ∙ ap (λ x. length (dampedOf n mu m (take (n * n) a)) + x) (length-drop (n * n) w))
+      ∙ sym (ap length made) ∙ kept in
+      omega arith
+
+  damped-head : take (n * n) w₁ ≡ dampedOf n mu m (take (n * n) a)
+  damped-head = rw made (take-at (dampedOf n mu m (take (n * n) a)) (drop (n * n) w) (n * n) head-long)
+
+pub eliminated-is : (n : ℕ) (mu m : Float) (a r w y w₁ y₁ w₂ y₂ : List Float) (e : Elimination) (ok : Bool) → n ≤ 80 → n * n ≤ length a → length r ≡ n
+    → n * n ≤ length w → length y ≡ n → w₁ ≡ dampedIn n mu m a w → length w₁ ≡ length w → y₁ ≡ copiedOf r y → Solves n w₁ y₁ w₂ y₂ e → ok ≡ isSolved e
+    → tried ok y₂ ≡ solutionOf n (dampedOf n mu m (take (n * n) a)) r
+eliminated-is n mu m a r w y w₁ y₁ w₂ y₂ e ok few ha hr hw hy d kept c s o =
+    let same : y₁ ≡ r = copied-whole r y y₁ (hy ∙ sym hr) c in
+    let long : length y₁ ≡ n = ap length same ∙ hr in
+    let fits : n * n ≤ length w₁ = rw kept hw in
+    let room : n ≤ length y₁ = rw long (le-refl n) in
+    let full : length y₁ ≤ n = rw long (le-refl n) in
+    let S : Try (List Float) = solved n w₁ y₁ in
+    let q : e ≡ found S = s .answer ∙ carried n w₁ y₁ TooMany TooShort (found S) few fits room in
+    let t : y₂ ≡ orZeros n S ++ drop n y₁ = s .right ∙ carried n w₁ y₁ y₁ y₁ (orZeros n S ++ drop n y₁) few fits room in
+    let head : take (n * n) w₁ ≡ dampedOf n mu m (take (n * n) a) = damped-head n mu m a w w₁ ha hw d kept in
+    ap (λ b. tried b y₂) o
+    ∙ answered n S e y₂ (drop n y₁) q t (drop-of-length-le y₁ full)
+    ∙ ap (λ v. solutionOf n (take (n * n) w₁) v) (take-all n y₁ full ∙ same)
+    ∙ ap (λ v. solutionOf n v r) head
+
+module _ (P : Problem) (nf : ℕ) (j a x r y : List Float) (m mu : Float) (ok : Bool)
+    (e : tried ok y ≡ solutionOf (P .rows) (dampedOf (P .rows) mu m (take (P .rows * P .rows) a)) r) (whole : length a ≡ P .rows * P .rows) where
+  product-whole : take (P .rows * P .rows) a ≡ a
+  product-whole = let l : length a ≤ P .rows * P .rows = omega arith in take-all (P .rows * P .rows) a l
+
+  at-product : tried ok y ≡ solutionOf (P .rows) (dampedOf (P .rows) mu m a) r
+  at-product = rw product-whole at e
+
+  pub no-trial : (t : Trial) → not ok ≡ true → tried false t ≡ trialOf P j a m mu x r
+  unfolding trialOf
+  no-trial t h = let s : tried false y ≡ solutionOf (P .rows) (dampedOf (P .rows) mu m a) r = rw (not-true ok h) at at-product in rw (← s)
+
+  pub trial-made : (free : List ℕ) (xn xn₁ xn₂ rn : List Float) → not ok ≡ false → free ≡ P .free → length (P .free) ≡ nf → length j ≡ P .rows * nf → length y ≡ P .rows
+      → length xn ≡ length x → xn₁ ≡ copiedOf x xn → xn₂ ≡ movedIn (P .rows) nf j y free xn₁ → rn ≡ P .values xn₂
+      → tried true (trialMade xn₂ rn) ≡ trialOf P j a m mu x r
+  unfolding trialOf movedIn
+  trial-made free xn xn₁ xn₂ rn h f n l k q c d v =
+      let s : tried true y ≡ solutionOf (P .rows) (dampedOf (P .rows) mu m a) r = rw (not-false ok h) at at-product in
+      let same : xn₁ ≡ x = copied-whole x xn xn₁ q c in
+      let lj : P .rows * nf ≤ length j = omega arith in
+      let ly : P .rows ≤ length y = omega arith in
+      let lf : nf ≤ length free = rw f (omega arith) in
+      let moves : xn₂ ≡ movedOf (P .rows) nf j y free xn₁ =
+      rw (le-leb (P .rows * nf) (length j) lj, le-leb (P .rows) (length y) ly, le-leb nf (length free) lf) at d in
+      rw (← s, v, moves, same, f, n)

@@ -1,0 +1,123 @@
+-- From what the calls of a try, and of a round's tries, promise to the definition. Assumes nothing.
+use Prim.Native.Nat.{ℕ, zero, suc, _+_, _-_, _*_, _≤_, _<_}
+use mathlib.Core.Bool.{Bool, true, false, not, cond, _&&_}
+use mathlib.Core.List.{List, _++_, append-nil}
+use mathlib.Core.Path.{_≡_, refl, sym, ap, _∙_}
+use native.Mathlib.Nat.{le-refl}
+use native.Mathlib.Omega.{arith}
+use borrow.Author.Tests.{not-true, not-false}
+use lib.Ieee.{Float, lt}
+use lib.Ieee.Scale.{finite}
+use lib.ListN.{length, drop, drop-of-length-le}
+use Rattle.floats.specs.Lists.{copiedOf}
+use Rattle.loops.specs.Turns.{Try, go, stop, tried}
+use Rattle.rows.specs.Dense.{Laid, laid, columnOf}
+use Rattle.sketch.specs.declared.Active.{Active}
+use Rattle.sketch.specs.declared.Line.{Line}
+use Rattle.solver.specs.Sums.{norm2Of}
+use Rattle.rounds.specs.Column.{column-is}
+use Rattle.rounds.specs.Held.{trialMade, takenFit, harderFit, Shapes}
+use Rattle.rounds.specs.Problem.{rowCount, valuesAt, stateOf, triedOf}
+use Rattle.rounds.specs.Solve.{Problem, State, Trial, Tried, judged, trialOf, tryOf, triesOf, orNext, better, taken, harder}
+use Rattle.rounds.specs.declared.Fit.{Fit}
+use Rattle.rounds.specs.declared.Attempted.{Attempted}
+use Rattle.rounds.proofs.Trials.{copied-whole}
+
+-- ---- the residuals
+
+abbrev laidIn : Laid → List Float
+laidIn (laid n r) = r
+
+pub values-found : (es : List Active) (ls : List Line) (places chosen : List ℕ) (x r r′ : List Float) (n : ℕ) → length chosen ≤ 40
+    → length r ≡ rowCount es chosen → laid n r′ ≡ columnOf es ls places x chosen r → r′ ≡ valuesAt es ls places chosen x
+values-found es ls places chosen x r r′ n few long e =
+    let room : rowCount es chosen ≤ length r = rw long (le-refl _) in
+    let full : length r ≤ rowCount es chosen = rw long (le-refl _) in
+    ap laidIn (e ∙ column-is es ls places chosen x r few room) ∙ rw (drop-of-length-le r full, append-nil)
+
+-- ---- a try
+
+module _ (x r xn rn : List Float) (f : Fit) (cost : Float) (e : cost ≡ norm2Of rn) (b : Bool) (fin : b ≡ finite cost) where
+  test : (v : Bool) → (b && lt cost (f .cost)) ≡ v → better (stateOf x r f) (trialMade xn rn) ≡ v
+  test v h = rw (fin, e) at h
+
+  pub judge-taken : (x₁ r₁ : List Float) (g : Fit) → (b && lt cost (f .cost)) ≡ true → length xn ≡ length x → length rn ≡ length r
+      → x₁ ≡ copiedOf xn x → r₁ ≡ copiedOf rn r → g ≡ takenFit f cost
+      → triedOf x₁ r₁ (record { improved = true; fit = g }) ≡ judged (stateOf x r f) (go (trialMade xn rn))
+  judge-taken x₁ r₁ g h lx lr cx cr t = rw (test true h, copied-whole xn x x₁ (sym lx) cx, copied-whole rn r r₁ (sym lr) cr, t, e)
+
+  pub judge-left : (g : Fit) → (b && lt cost (f .cost)) ≡ false → g ≡ harderFit f
+      → triedOf x r (record { improved = false; fit = g }) ≡ judged (stateOf x r f) (go (trialMade xn rn))
+  judge-left g h t = rw (test false h, t)
+
+module _ (P : Problem) (j a : List Float) (m : Float) (x r : List Float) (f : Fit) where
+  pub no-try : (ok : Bool) (t : Trial) (g : Fit) → tried ok t ≡ trialOf P j a m (f .mu) x r → not ok ≡ true → g ≡ harderFit f
+      → triedOf x r (record { improved = false; fit = g }) ≡ tryOf P j a m (stateOf x r f)
+  unfolding tryOf
+  no-try ok t g e h q = let s : tried false t ≡ trialOf P j a m (f .mu) x r = rw (not-true ok h) at e in rw (← s, q)
+
+  pub a-try : (ok : Bool) (t : Trial) (x′ r′ : List Float) (g : Attempted) → tried ok t ≡ trialOf P j a m (f .mu) x r → not ok ≡ false
+      → triedOf x′ r′ g ≡ judged (stateOf x r f) (go t) → triedOf x′ r′ g ≡ tryOf P j a m (stateOf x r f)
+  unfolding tryOf
+  a-try ok t x′ r′ g e h q = let s : tried true t ≡ trialOf P j a m (f .mu) x r = rw (not-false ok h) at e in q ∙ ap (judged (stateOf x r f)) s
+
+-- ---- the tries of a round
+
+pub counted : (s : State) (o : Try Trial) → judged s o .state .tries ≡ s .tries + 1
+counted s stop = refl
+counted s (go t) = pick (better s t)
+  where
+    pick : (b : Bool) → cond {A = Tried} b (record { improved = true; state = taken s t }) (record { improved = false; state = harder s }) .state .tries ≡ s .tries + 1
+    pick true = refl
+    pick false = refl
+
+module _ (P : Problem) (j a : List Float) (m : Float) where
+  pub one-more : (s : State) (x′ r′ : List Float) (t : Attempted) → triedOf x′ r′ t ≡ tryOf P j a m s → t .fit .tries ≡ s .tries + 1
+  unfolding tryOf
+  one-more s x′ r′ t e = ap (λ (u : Tried). u .state .tries) e ∙ counted s (trialOf P j a m (s .mu) (s .x) (s .r))
+
+  tries-step : (k n : ℕ) (s : State) (t : Tried) → n ≡ suc k → t ≡ tryOf P j a m s → triesOf P j a m n s ≡ orNext (t .improved) (t .state) (triesOf P j a m k)
+  unfolding triesOf
+  tries-step k n s t e q = rw (e, q)
+
+  module _ (i : ℕ) (s : State) (x′ r′ : List Float) (t : Attempted) (R : Tried) (h : i < 12) (e : triedOf x′ r′ t ≡ tryOf P j a m s)
+      (q : triesOf P j a m (12 - i) s ≡ R) where
+    step : triesOf P j a m (12 - i) s ≡ orNext (t .improved) (stateOf x′ r′ (t .fit)) (triesOf P j a m (12 - (i + 1)))
+    step = tries-step (12 - (i + 1)) (12 - i) s (triedOf x′ r′ t) (omega arith) e
+
+    pub tries-next : t .improved ≡ false → triesOf P j a m (12 - (i + 1)) (stateOf x′ r′ (t .fit)) ≡ R
+    tries-next b = ap (λ v. orNext v (stateOf x′ r′ (t .fit)) (triesOf P j a m (12 - (i + 1)))) (sym b) ∙ sym step ∙ q
+
+    pub tries-stop : t .improved ≡ true → triedOf x′ r′ t ≡ R
+    tries-stop b =
+        rw b (ap (λ v. orNext v (stateOf x′ r′ (t .fit)) (triesOf P j a m (12 - (i + 1)))) (sym b) ∙ sym step ∙ q)
+
+  tries-none : (n : ℕ) (s : State) → n ≡ 0 → triesOf P j a m n s ≡ record { improved = false; state = s }
+  unfolding triesOf
+  tries-none n s e = rw e
+
+  pub tries-done : (i : ℕ) (s : State) (R : Tried) → 12 ≤ i → triesOf P j a m (12 - i) s ≡ R → record { improved = false; state = s } ≡ R
+  tries-done i s R h q = sym (tries-none (12 - i) s (omega arith)) ∙ q
+
+-- the slices are as long as before
+module _ (es : List Active) (chosen : List ℕ) (rows nf : ℕ) (free : List ℕ) where
+  pub reshaped : (j a x r w y xn rn j′ a′ x′ r′ w′ y′ xn′ rn′ : List Float) → Shapes es chosen rows nf free j a x r w y xn rn → length j′ ≡ length j
+      → length a′ ≡ length a → length x′ ≡ length x → length r′ ≡ length r → length w′ ≡ length w → length y′ ≡ length y → length xn′ ≡ length xn
+      → length rn′ ≡ length rn → Shapes es chosen rows nf free j′ a′ x′ r′ w′ y′ xn′ rn′
+  reshaped j a x r w y xn rn j′ a′ x′ r′ w′ y′ xn′ rn′ s ej ea ex er ew ey exn ern = record {
+    chosen-few = s .chosen-few;
+    counted = s .counted;
+    few = s .few;
+    free-long = s .free-long;
+    jacobian-long = ej ∙ s .jacobian-long;
+    product-long = ea ∙ s .product-long;
+    residuals-long = er ∙ s .residuals-long;
+    work-long = rw ew (s .work-long);
+    answer-long = ey ∙ s .answer-long;
+    trial-long = exn ∙ s .trial-long ∙ sym ex;
+    values-long = ern ∙ s .values-long;
+  }
+
+  pub shaped : (j a x r w y xn rn x′ r′ w′ y′ xn′ rn′ : List Float) → Shapes es chosen rows nf free j a x r w y xn rn → length x′ ≡ length x → length r′ ≡ length r
+      → length w′ ≡ length w → length y′ ≡ length y → length xn′ ≡ length xn → length rn′ ≡ length rn → Shapes es chosen rows nf free j a x′ r′ w′ y′ xn′ rn′
+  shaped j a x r w y xn rn x′ r′ w′ y′ xn′ rn′ s = reshaped j a x r w y xn rn j a x′ r′ w′ y′ xn′ rn′ s refl refl

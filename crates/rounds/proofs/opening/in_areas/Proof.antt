@@ -1,0 +1,324 @@
+use Prim.Native.Nat.{_*_, _≤_}
+use mathlib.Core.List.{_++_}
+use mathlib.Core.Path.{refl, sym, ap, _∙_}
+use native.Mathlib.Nat.{le-refl}
+use lib.ListN.{length, drop, replicate}
+use lib.Seq.{length-front}
+use Rattle.floats.specs.Ops.{zero⁺}
+use Rattle.loops.specs.Parts.{front, still-fits, refilled}
+use Rattle.rounds.specs.Promise.{zeroed}
+use Rattle.rounds.proofs.Begins.{counted, at-most, values-first, table-fits, fits-in, counted-outcome}
+use borrow.Author.Needs.{needs}
+use Rattle.rounds.proofs.opening.in_areas.Statement.{statement}
+use Rattle.rounds.proofs.opening.in_areas.Tie as tie
+use Rattle.rounds.proofs.opening.in_areas.Reads as reads
+use Rattle.rounds.proofs.opening.in_areas.Lts as lts
+use Rattle.floats.proofs.clear.Reads as clear-reads
+use Rattle.rounds.proofs.opening.opened.Reads as opened-reads
+use Rattle.rows.proofs.residuals.Reads as residuals-reads
+
+-- src/opening.rt:83:69
+slice-aggregate-residuals : tie.Need-slice-aggregate-residuals
+slice-aggregate-residuals c = search needs
+
+-- src/opening.rt:83:9
+residuals-requires : tie.Need-residuals-requires
+residuals-requires c κs = search needs
+
+-- src/opening.rt:86:16
+mul-size : tie.Need-mul-size
+mul-size c =
+    let k = c .before in
+    let s = k .before .before .before .before .before .before .before .before .before .before .before in
+    let few = at-most (s .args .equations) (s .args .lines) (s .args .places .now) (s .args .chosen .now) (s .args .x .now) (replicate 80 zero⁺) (k .residuals .last .1 .1 .1 .1 .1 .0) (k .residuals .result) (s .pre .0) refl (k .residuals .ensures) in
+    table-fits (k .residuals .result) (length (s .args .free .now)) few (s .pre .1)
+
+-- src/opening.rt:87:18
+mul-square : tie.Need-mul-square
+mul-square c =
+    let k = c .before in
+    let s = k .before .before .before .before .before .before .before .before .before .before .before in
+    let few = at-most (s .args .equations) (s .args .lines) (s .args .places .now) (s .args .chosen .now) (s .args .x .now) (replicate 80 zero⁺) (k .residuals .last .1 .1 .1 .1 .1 .0) (k .residuals .result) (s .pre .0) refl (k .residuals .ensures) in
+    table-fits (k .residuals .result) (k .residuals .result) few few
+
+-- src/opening.rt:96:9
+array-borrow-prefix-r : tie.Need-array-borrow-prefix-r
+array-borrow-prefix-r c =
+    let k = c .before .before in
+    let s = k .before .before .before .before .before .before .before .before .before .before .before in
+    let few = at-most (s .args .equations) (s .args .lines) (s .args .places .now) (s .args .chosen .now) (s .args .x .now) (replicate 80 zero⁺) (k .residuals .last .1 .1 .1 .1 .1 .0) (k .residuals .result) (s .pre .0) refl (k .residuals .ensures) in
+    rw (k .residuals .kept .1 .1 .1 .1 .1 .0) few
+
+-- src/opening.rt:96:9
+slice-aggregate-opened : tie.Need-slice-aggregate-opened
+slice-aggregate-opened c =
+    let k = c .before .before .before in
+    let s = k .before .before .before .before .before .before .before .before .before .before .before in
+    let few = at-most (s .args .equations) (s .args .lines) (s .args .places .now) (s .args .chosen .now) (s .args .x .now) (replicate 80 zero⁺) (k .residuals .last .1 .1 .1 .1 .1 .0) (k .residuals .result) (s .pre .0) refl (k .residuals .ensures) in
+    let room : k .residuals .result ≤ length (k .residuals .last .1 .1 .1 .1 .1 .0) = rw (k .residuals .kept .1 .1 .1 .1 .1 .0) few in
+    front (k .residuals .result) (k .residuals .last .1 .1 .1 .1 .1 .0) room
+
+-- src/opening.rt:97:9
+slice-relend-prefix-opened : tie.Need-slice-relend-prefix-opened
+slice-relend-prefix-opened c =
+    let k = c .before .before .before in
+    let s = k .before .before .before .before .before .before .before .before .before .before .before in
+    let few = at-most (s .args .equations) (s .args .lines) (s .args .places .now) (s .args .chosen .now) (s .args .x .now) (replicate 80 zero⁺) (k .residuals .last .1 .1 .1 .1 .1 .0) (k .residuals .result) (s .pre .0) refl (k .residuals .ensures) in
+    fits-in (k .residuals .result) (length (s .args .free .now)) (length (s .args .a .now)) few (s .pre .1) (s .pre .3)
+
+-- src/opening.rt:97:9
+slice-aggregate-opened-2 : tie.Need-slice-aggregate-opened-2
+slice-aggregate-opened-2 c =
+    let k = c .before .before .before .before in
+    let s = k .before .before .before .before .before .before .before .before .before .before .before in
+    let few = at-most (s .args .equations) (s .args .lines) (s .args .places .now) (s .args .chosen .now) (s .args .x .now) (replicate 80 zero⁺) (k .residuals .last .1 .1 .1 .1 .1 .0) (k .residuals .result) (s .pre .0) refl (k .residuals .ensures) in
+    front (k .residuals .result * length (s .args .free .now)) (s .args .a .now) (fits-in (k .residuals .result) (length (s .args .free .now)) (length (s .args .a .now)) few (s .pre .1) (s .pre .3))
+
+-- src/opening.rt:98:9
+slice-relend-prefix-opened-2 : tie.Need-slice-relend-prefix-opened-2
+slice-relend-prefix-opened-2 c =
+    let k = c .before .before .before .before in
+    let s = k .before .before .before .before .before .before .before .before .before .before .before in
+    let few = at-most (s .args .equations) (s .args .lines) (s .args .places .now) (s .args .chosen .now) (s .args .x .now) (replicate 80 zero⁺) (k .residuals .last .1 .1 .1 .1 .1 .0) (k .residuals .result) (s .pre .0) refl (k .residuals .ensures) in
+    fits-in (k .residuals .result) (k .residuals .result) (length (s .args .b .now)) few few (s .pre .4)
+
+-- src/opening.rt:98:9
+slice-aggregate-opened-3 : tie.Need-slice-aggregate-opened-3
+slice-aggregate-opened-3 c =
+    let k = c .before .before .before .before .before in
+    let s = k .before .before .before .before .before .before .before .before .before .before .before in
+    let few = at-most (s .args .equations) (s .args .lines) (s .args .places .now) (s .args .chosen .now) (s .args .x .now) (replicate 80 zero⁺) (k .residuals .last .1 .1 .1 .1 .1 .0) (k .residuals .result) (s .pre .0) refl (k .residuals .ensures) in
+    front (k .residuals .result * k .residuals .result) (s .args .b .now) (fits-in (k .residuals .result) (k .residuals .result) (length (s .args .b .now)) few few (s .pre .4))
+
+-- src/opening.rt:99:9
+slice-relend-prefix-opened-3 : tie.Need-slice-relend-prefix-opened-3
+slice-relend-prefix-opened-3 c =
+    let k = c .before .before .before .before .before in
+    let s = k .before .before .before .before .before .before .before .before .before .before .before in
+    let few = at-most (s .args .equations) (s .args .lines) (s .args .places .now) (s .args .chosen .now) (s .args .x .now) (replicate 80 zero⁺) (k .residuals .last .1 .1 .1 .1 .1 .0) (k .residuals .result) (s .pre .0) refl (k .residuals .ensures) in
+    fits-in (k .residuals .result) (k .residuals .result) (length (s .args .c .now)) few few (s .pre .5)
+
+-- src/opening.rt:99:9
+slice-aggregate-opened-4 : tie.Need-slice-aggregate-opened-4
+slice-aggregate-opened-4 c =
+    let k = c .before .before .before .before .before .before in
+    let s = k .before .before .before .before .before .before .before .before .before .before .before in
+    let few = at-most (s .args .equations) (s .args .lines) (s .args .places .now) (s .args .chosen .now) (s .args .x .now) (replicate 80 zero⁺) (k .residuals .last .1 .1 .1 .1 .1 .0) (k .residuals .result) (s .pre .0) refl (k .residuals .ensures) in
+    front (k .residuals .result * k .residuals .result) (s .args .c .now) (fits-in (k .residuals .result) (k .residuals .result) (length (s .args .c .now)) few few (s .pre .5))
+
+-- src/opening.rt:100:9
+array-borrow-prefix-y : tie.Need-array-borrow-prefix-y
+array-borrow-prefix-y c =
+    let k = c .before .before .before .before .before .before in
+    let s = k .before .before .before .before .before .before .before .before .before .before .before in
+    let few = at-most (s .args .equations) (s .args .lines) (s .args .places .now) (s .args .chosen .now) (s .args .x .now) (replicate 80 zero⁺) (k .residuals .last .1 .1 .1 .1 .1 .0) (k .residuals .result) (s .pre .0) refl (k .residuals .ensures) in
+    few
+
+-- src/opening.rt:100:9
+slice-aggregate-opened-5 : tie.Need-slice-aggregate-opened-5
+slice-aggregate-opened-5 c =
+    let k = c .before .before .before .before .before .before .before in
+    let s = k .before .before .before .before .before .before .before .before .before .before .before in
+    let few = at-most (s .args .equations) (s .args .lines) (s .args .places .now) (s .args .chosen .now) (s .args .x .now) (replicate 80 zero⁺) (k .residuals .last .1 .1 .1 .1 .1 .0) (k .residuals .result) (s .pre .0) refl (k .residuals .ensures) in
+    front (k .residuals .result) (replicate 80 zero⁺) few
+
+-- src/opening.rt:101:9
+array-borrow-prefix-xn : tie.Need-array-borrow-prefix-xn
+array-borrow-prefix-xn c = search needs
+
+-- src/opening.rt:101:9
+slice-aggregate-opened-6 : tie.Need-slice-aggregate-opened-6
+slice-aggregate-opened-6 c =
+    let s = c .before .before .before .before .before .before .before .before .before .before .before .before .before .before .before .before .before .before .before in
+    front (length (s .args .x .now)) (replicate 80 zero⁺) (s .pre .2)
+
+-- src/opening.rt:102:9
+array-borrow-prefix-rn : tie.Need-array-borrow-prefix-rn
+array-borrow-prefix-rn c =
+    let k = c .before .before .before .before .before .before .before .before in
+    let s = k .before .before .before .before .before .before .before .before .before .before .before in
+    let few = at-most (s .args .equations) (s .args .lines) (s .args .places .now) (s .args .chosen .now) (s .args .x .now) (replicate 80 zero⁺) (k .residuals .last .1 .1 .1 .1 .1 .0) (k .residuals .result) (s .pre .0) refl (k .residuals .ensures) in
+    few
+
+-- src/opening.rt:102:9
+slice-aggregate-opened-7 : tie.Need-slice-aggregate-opened-7
+slice-aggregate-opened-7 c =
+    let k = c .before .before .before .before .before .before .before .before .before in
+    let s = k .before .before .before .before .before .before .before .before .before .before .before in
+    let few = at-most (s .args .equations) (s .args .lines) (s .args .places .now) (s .args .chosen .now) (s .args .x .now) (replicate 80 zero⁺) (k .residuals .last .1 .1 .1 .1 .1 .0) (k .residuals .result) (s .pre .0) refl (k .residuals .ensures) in
+    front (k .residuals .result) (replicate 80 zero⁺) few
+
+-- src/opening.rt:88:9
+opened-requires : tie.Need-opened-requires
+opened-requires c κs =
+    let k = c .before .before .before .before .before .before .before .before .before in
+    let s = k .before .before .before .before .before .before .before .before .before .before .before in
+    let few = at-most (s .args .equations) (s .args .lines) (s .args .places .now) (s .args .chosen .now) (s .args .x .now) (replicate 80 zero⁺) (k .residuals .last .1 .1 .1 .1 .1 .0) (k .residuals .result) (s .pre .0) refl (k .residuals .ensures) in
+    let room : k .residuals .result ≤ length (k .residuals .last .1 .1 .1 .1 .1 .0) = rw (k .residuals .kept .1 .1 .1 .1 .1 .0) few in (
+      record {
+        chosen-few = s .pre .0;
+        counted = counted (s .args .equations) (s .args .lines) (s .args .places .now) (s .args .chosen .now) (s .args .x .now) (replicate 80 zero⁺) (k .residuals .last .1 .1 .1 .1 .1 .0) (k .residuals .result) (s .pre .0) refl (k .residuals .ensures);
+        few = few;
+        free-long = refl;
+        jacobian-long = sym (front (k .residuals .result * length (s .args .free .now)) (s .args .a .now) (fits-in (k .residuals .result) (length (s .args .free .now)) (length (s .args .a .now)) few (s .pre .1) (s .pre .3)));
+        product-long = sym (front (k .residuals .result * k .residuals .result) (s .args .b .now) (fits-in (k .residuals .result) (k .residuals .result) (length (s .args .b .now)) few few (s .pre .4)));
+        residuals-long = sym (front (k .residuals .result) (k .residuals .last .1 .1 .1 .1 .1 .0) room);
+        work-long = rw (← front (k .residuals .result * k .residuals .result) (s .args .c .now) (fits-in (k .residuals .result) (k .residuals .result) (length (s .args .c .now)) few few (s .pre .5))) (le-refl _);
+        answer-long = sym (front (k .residuals .result) (replicate 80 zero⁺) few);
+        trial-long = sym (front (length (s .args .x .now)) (replicate 80 zero⁺) (s .pre .2));
+        values-long = sym (front (k .residuals .result) (replicate 80 zero⁺) few);
+      },
+      record { own = values-first (s .args .equations) (s .args .lines) (s .args .places .now) (s .args .chosen .now) (s .args .x .now) (replicate 80 zero⁺) (k .residuals .last .1 .1 .1 .1 .1 .0) (k .residuals .result) (s .pre .0) refl (k .residuals .ensures); narrow = s .pre .1 },
+    )
+
+-- src/opening.rt:106:19
+slice-relend-prefix-clear : tie.Need-slice-relend-prefix-clear
+slice-relend-prefix-clear c =
+    let o = c .before .before .before .before .before .before .before .before .before .before .before .before in
+    let k = o .before .before .before .before .before .before .before .before .before .before in
+    let s = k .before .before .before .before .before .before .before .before .before .before .before in
+    let few = at-most (s .args .equations) (s .args .lines) (s .args .places .now) (s .args .chosen .now) (s .args .x .now) (replicate 80 zero⁺) (k .residuals .last .1 .1 .1 .1 .1 .0) (k .residuals .result) (s .pre .0) refl (k .residuals .ensures) in
+    still-fits (k .residuals .result * length (s .args .free .now)) (s .args .a .now) (o .opened .last .1 .1 .1 .1 .1 .1 .1 .1 .0) (fits-in (k .residuals .result) (length (s .args .free .now)) (length (s .args .a .now)) few (s .pre .1) (s .pre .3)) (o .opened .kept .1 .1 .1 .1 .1 .1 .1 .1 .0)
+
+-- src/opening.rt:106:19
+slice-aggregate-clear : tie.Need-slice-aggregate-clear
+slice-aggregate-clear c =
+    let o = c .before .before .before .before .before .before .before .before .before .before .before .before .before in
+    let k = o .before .before .before .before .before .before .before .before .before .before in
+    let s = k .before .before .before .before .before .before .before .before .before .before .before in
+    let few = at-most (s .args .equations) (s .args .lines) (s .args .places .now) (s .args .chosen .now) (s .args .x .now) (replicate 80 zero⁺) (k .residuals .last .1 .1 .1 .1 .1 .0) (k .residuals .result) (s .pre .0) refl (k .residuals .ensures) in
+    front (k .residuals .result * length (s .args .free .now)) ((o .opened .last .1 .1 .1 .1 .1 .1 .1 .1 .0) ++ drop (k .residuals .result * length (s .args .free .now)) (s .args .a .now)) (still-fits (k .residuals .result * length (s .args .free .now)) (s .args .a .now) (o .opened .last .1 .1 .1 .1 .1 .1 .1 .1 .0) (fits-in (k .residuals .result) (length (s .args .free .now)) (length (s .args .a .now)) few (s .pre .1) (s .pre .3)) (o .opened .kept .1 .1 .1 .1 .1 .1 .1 .1 .0))
+
+-- src/opening.rt:106:5
+clear-requires : tie.Need-clear-requires
+clear-requires c κs = search needs
+
+-- src/opening.rt:107:19
+slice-relend-prefix-clear-2 : tie.Need-slice-relend-prefix-clear-2
+slice-relend-prefix-clear-2 c =
+    let o = c .before .before .before .before .before .before .before .before .before .before .before .before .before .before .before .before in
+    let k = o .before .before .before .before .before .before .before .before .before .before in
+    let s = k .before .before .before .before .before .before .before .before .before .before .before in
+    let few = at-most (s .args .equations) (s .args .lines) (s .args .places .now) (s .args .chosen .now) (s .args .x .now) (replicate 80 zero⁺) (k .residuals .last .1 .1 .1 .1 .1 .0) (k .residuals .result) (s .pre .0) refl (k .residuals .ensures) in
+    still-fits (k .residuals .result * k .residuals .result) (s .args .b .now) (o .opened .last .1 .1 .1 .1 .1 .1 .1 .1 .1 .0) (fits-in (k .residuals .result) (k .residuals .result) (length (s .args .b .now)) few few (s .pre .4)) (o .opened .kept .1 .1 .1 .1 .1 .1 .1 .1 .1 .0)
+
+-- src/opening.rt:107:19
+slice-aggregate-clear-2 : tie.Need-slice-aggregate-clear-2
+slice-aggregate-clear-2 c =
+    let o = c .before .before .before .before .before .before .before .before .before .before .before .before .before .before .before .before .before in
+    let k = o .before .before .before .before .before .before .before .before .before .before in
+    let s = k .before .before .before .before .before .before .before .before .before .before .before in
+    let few = at-most (s .args .equations) (s .args .lines) (s .args .places .now) (s .args .chosen .now) (s .args .x .now) (replicate 80 zero⁺) (k .residuals .last .1 .1 .1 .1 .1 .0) (k .residuals .result) (s .pre .0) refl (k .residuals .ensures) in
+    front (k .residuals .result * k .residuals .result) ((o .opened .last .1 .1 .1 .1 .1 .1 .1 .1 .1 .0) ++ drop (k .residuals .result * k .residuals .result) (s .args .b .now)) (still-fits (k .residuals .result * k .residuals .result) (s .args .b .now) (o .opened .last .1 .1 .1 .1 .1 .1 .1 .1 .1 .0) (fits-in (k .residuals .result) (k .residuals .result) (length (s .args .b .now)) few few (s .pre .4)) (o .opened .kept .1 .1 .1 .1 .1 .1 .1 .1 .1 .0))
+
+-- src/opening.rt:107:5
+clear-requires-2 : tie.Need-clear-requires-2
+clear-requires-2 c κs = search needs
+
+-- src/opening.rt:108:19
+slice-relend-prefix-clear-3 : tie.Need-slice-relend-prefix-clear-3
+slice-relend-prefix-clear-3 c =
+    let o = c .before .before .before .before .before .before .before .before .before .before .before .before .before .before .before .before .before .before .before .before in
+    let k = o .before .before .before .before .before .before .before .before .before .before in
+    let s = k .before .before .before .before .before .before .before .before .before .before .before in
+    let few = at-most (s .args .equations) (s .args .lines) (s .args .places .now) (s .args .chosen .now) (s .args .x .now) (replicate 80 zero⁺) (k .residuals .last .1 .1 .1 .1 .1 .0) (k .residuals .result) (s .pre .0) refl (k .residuals .ensures) in
+    still-fits (k .residuals .result * k .residuals .result) (s .args .c .now) (o .opened .last .1 .1 .1 .1 .1 .1 .1 .1 .1 .1 .0) (fits-in (k .residuals .result) (k .residuals .result) (length (s .args .c .now)) few few (s .pre .5)) (o .opened .kept .1 .1 .1 .1 .1 .1 .1 .1 .1 .1 .0)
+
+-- src/opening.rt:108:19
+slice-aggregate-clear-3 : tie.Need-slice-aggregate-clear-3
+slice-aggregate-clear-3 c =
+    let o = c .before .before .before .before .before .before .before .before .before .before .before .before .before .before .before .before .before .before .before .before .before in
+    let k = o .before .before .before .before .before .before .before .before .before .before in
+    let s = k .before .before .before .before .before .before .before .before .before .before .before in
+    let few = at-most (s .args .equations) (s .args .lines) (s .args .places .now) (s .args .chosen .now) (s .args .x .now) (replicate 80 zero⁺) (k .residuals .last .1 .1 .1 .1 .1 .0) (k .residuals .result) (s .pre .0) refl (k .residuals .ensures) in
+    front (k .residuals .result * k .residuals .result) ((o .opened .last .1 .1 .1 .1 .1 .1 .1 .1 .1 .1 .0) ++ drop (k .residuals .result * k .residuals .result) (s .args .c .now)) (still-fits (k .residuals .result * k .residuals .result) (s .args .c .now) (o .opened .last .1 .1 .1 .1 .1 .1 .1 .1 .1 .1 .0) (fits-in (k .residuals .result) (k .residuals .result) (length (s .args .c .now)) few few (s .pre .5)) (o .opened .kept .1 .1 .1 .1 .1 .1 .1 .1 .1 .1 .0))
+
+-- src/opening.rt:108:5
+clear-requires-3 : tie.Need-clear-requires-3
+clear-requires-3 c κs = search needs
+
+-- src/opening.rt:60:1
+same-length : tie.Need-same-length
+same-length c = search needs
+
+-- src/opening.rt:60:1
+same-length-2 : tie.Need-same-length-2
+same-length-2 c =
+    let z = c .before .before .before .before .before .before .before .before .before .before in
+    let o = z .before .before .before .before .before .before .before .before .before .before .before .before .before .before in
+    let k = o .before .before .before .before .before .before .before .before .before .before in
+    let s = k .before .before .before .before .before .before .before .before .before .before .before in
+    length-front ((o .opened .last .1 .1 .1 .1 .1 .1 .1 .1 .0) ++ drop (k .residuals .result * length (s .args .free .now)) (s .args .a .now)) (z .clear .last .0) (k .residuals .result * length (s .args .free .now)) (z .clear .kept .0) ∙ length-front (s .args .a .now) (o .opened .last .1 .1 .1 .1 .1 .1 .1 .1 .0) (k .residuals .result * length (s .args .free .now)) (o .opened .kept .1 .1 .1 .1 .1 .1 .1 .1 .0)
+
+-- src/opening.rt:60:1
+same-length-3 : tie.Need-same-length-3
+same-length-3 c =
+    let z = c .before .before .before .before .before .before in
+    let o = z .before .before .before .before .before .before .before .before .before .before .before .before .before .before .before .before .before .before in
+    let k = o .before .before .before .before .before .before .before .before .before .before in
+    let s = k .before .before .before .before .before .before .before .before .before .before .before in
+    length-front ((o .opened .last .1 .1 .1 .1 .1 .1 .1 .1 .1 .0) ++ drop (k .residuals .result * k .residuals .result) (s .args .b .now)) (z .clear2 .last .0) (k .residuals .result * k .residuals .result) (z .clear2 .kept .0) ∙ length-front (s .args .b .now) (o .opened .last .1 .1 .1 .1 .1 .1 .1 .1 .1 .0) (k .residuals .result * k .residuals .result) (o .opened .kept .1 .1 .1 .1 .1 .1 .1 .1 .1 .0)
+
+-- src/opening.rt:60:1
+same-length-4 : tie.Need-same-length-4
+same-length-4 c =
+    let z = c .before .before in
+    let o = z .before .before .before .before .before .before .before .before .before .before .before .before .before .before .before .before .before .before .before .before .before .before in
+    let k = o .before .before .before .before .before .before .before .before .before .before in
+    let s = k .before .before .before .before .before .before .before .before .before .before .before in
+    length-front ((o .opened .last .1 .1 .1 .1 .1 .1 .1 .1 .1 .1 .0) ++ drop (k .residuals .result * k .residuals .result) (s .args .c .now)) (z .clear3 .last .0) (k .residuals .result * k .residuals .result) (z .clear3 .kept .0) ∙ length-front (s .args .c .now) (o .opened .last .1 .1 .1 .1 .1 .1 .1 .1 .1 .1 .0) (k .residuals .result * k .residuals .result) (o .opened .kept .1 .1 .1 .1 .1 .1 .1 .1 .1 .1 .0)
+
+-- src/opening.rt:60:1
+returns : tie.Need-returns
+returns c =
+    let w = c .before .before in
+    let v = w .before .before .before .before in
+    let u = v .before .before .before .before in
+    let o = u .before .before .before .before .before .before .before .before .before .before .before .before .before .before in
+    let k = o .before .before .before .before .before .before .before .before .before .before in
+    let s = k .before .before .before .before .before .before .before .before .before .before .before in
+    let few = at-most (s .args .equations) (s .args .lines) (s .args .places .now) (s .args .chosen .now) (s .args .x .now) (replicate 80 zero⁺) (k .residuals .last .1 .1 .1 .1 .1 .0) (k .residuals .result) (s .pre .0) refl (k .residuals .ensures) in
+    let e = counted (s .args .equations) (s .args .lines) (s .args .places .now) (s .args .chosen .now) (s .args .x .now) (replicate 80 zero⁺) (k .residuals .last .1 .1 .1 .1 .1 .0) (k .residuals .result) (s .pre .0) refl (k .residuals .ensures) in (
+      counted-outcome (s .args .equations) (s .args .lines) (s .args .places .now) (s .args .columns .now) (s .args .chosen .now) (s .args .free .now) (s .args .x .now) (k .residuals .result) _ e (o .opened .ensures),
+      refilled zero⁺ (k .residuals .result * length (s .args .free .now)) (s .args .a .now) (o .opened .last .1 .1 .1 .1 .1 .1 .1 .1 .0) (u .clear .last .0) (fits-in (k .residuals .result) (length (s .args .free .now)) (length (s .args .a .now)) few (s .pre .1) (s .pre .3)) (o .opened .kept .1 .1 .1 .1 .1 .1 .1 .1 .0) (u .clear .ensures) ∙ ap (λ m. zeroed (m * length (s .args .free .now)) (s .args .a .now)) e,
+      refilled zero⁺ (k .residuals .result * k .residuals .result) (s .args .b .now) (o .opened .last .1 .1 .1 .1 .1 .1 .1 .1 .1 .0) (v .clear2 .last .0) (fits-in (k .residuals .result) (k .residuals .result) (length (s .args .b .now)) few few (s .pre .4)) (o .opened .kept .1 .1 .1 .1 .1 .1 .1 .1 .1 .0) (v .clear2 .ensures) ∙ ap (λ m. zeroed (m * m) (s .args .b .now)) e,
+      refilled zero⁺ (k .residuals .result * k .residuals .result) (s .args .c .now) (o .opened .last .1 .1 .1 .1 .1 .1 .1 .1 .1 .1 .0) (w .clear3 .last .0) (fits-in (k .residuals .result) (k .residuals .result) (length (s .args .c .now)) few few (s .pre .5)) (o .opened .kept .1 .1 .1 .1 .1 .1 .1 .1 .1 .1 .0) (w .clear3 .ensures) ∙ ap (λ m. zeroed (m * m) (s .args .c .now)) e,
+    )
+
+pub in-areas-spec : {M : Type 1} → statement M
+in-areas-spec =
+    tie.close
+    (tie.spec
+    slice-aggregate-residuals
+    residuals-requires
+    mul-size
+    mul-square
+    array-borrow-prefix-r
+    slice-aggregate-opened
+    slice-relend-prefix-opened
+    slice-aggregate-opened-2
+    slice-relend-prefix-opened-2
+    slice-aggregate-opened-3
+    slice-relend-prefix-opened-3
+    slice-aggregate-opened-4
+    array-borrow-prefix-y
+    slice-aggregate-opened-5
+    array-borrow-prefix-xn
+    slice-aggregate-opened-6
+    array-borrow-prefix-rn
+    slice-aggregate-opened-7
+    opened-requires
+    slice-relend-prefix-clear
+    slice-aggregate-clear
+    clear-requires
+    slice-relend-prefix-clear-2
+    slice-aggregate-clear-2
+    clear-requires-2
+    slice-relend-prefix-clear-3
+    slice-aggregate-clear-3
+    clear-requires-3
+    same-length
+    same-length-2
+    same-length-3
+    same-length-4
+    returns)

@@ -1,0 +1,172 @@
+use Prim.Native.Nat.{_+_, _-_, _≤_}
+use mathlib.Core.Path.{_≡_, refl, _∙_}
+use native.Mathlib.Omega.{arith}
+use lib.ListN.{length}
+use borrow.Author.Needs.{needs}
+use Rattle.rounds.specs.Problem.{problemOf, stateOf}
+use Rattle.rounds.specs.Solve.{triesOf}
+use Rattle.rounds.proofs.Turn.{shaped, one-more, tries-next, tries-stop, tries-done}
+use Rattle.rounds.proofs.tries.all_tries.Statement.{statement}
+use Rattle.rounds.proofs.tries.all_tries.Tie as tie
+use Rattle.rounds.proofs.tries.all_tries.Reads as reads
+use Rattle.rounds.proofs.tries.all_tries.Lts as lts
+use Rattle.rounds.proofs.tries.one_try.Reads as one-try-reads
+
+abbrev Inv-loop : tie.InvT-loop
+Inv-loop equations lines chosen places free j a x₀ r₀ w₀ y₀ xn₀ rn₀ rows nf m f₀ counter₀ x r w y xn rn f counter =
+    (counter ≤ 12)
+    × (f .tries ≤ f₀ .tries + counter)
+    × (triesOf (problemOf equations lines places chosen free rows) j a m (12 - counter) (stateOf x r f)
+    ≡ triesOf (problemOf equations lines places chosen free rows) j a m 12 (stateOf x₀ r₀ f₀))
+    × (length x ≡ length x₀)
+    × (length r ≡ length r₀)
+    × (length w ≡ length w₀)
+    × (length y ≡ length y₀)
+    × (length xn ≡ length xn₀)
+    × (length rn ≡ length rn₀)
+
+abbrev μ-loop : tie.MeasureT-loop
+μ-loop equations lines chosen places free j a x₀ r₀ w₀ y₀ xn₀ rn₀ rows nf m f₀ counter₀ x r w y xn rn f counter =
+    12 - counter
+
+-- src/tries.rt:94:5
+loop-holds : tie.Need-loop-holds Inv-loop μ-loop
+loop-holds c = (search needs, search needs, refl, refl, refl, refl, refl, refl, refl)
+
+-- src/tries.rt:95:13
+one-try-requires : tie.Need-one-try-requires Inv-loop μ-loop
+one-try-requires c κs =
+    let t = c .before .before .before .before .before .before in
+    let l = t .before in
+    let s = l .before .before .before .before .before .before .before .before .before .before .before .before in (
+      shaped (s .args .equations) (s .args .chosen .now) (s .args .rows) (s .args .nf) (s .args .free .now) (s .args .j .now) (s .args .a .now) (s .args .x .now)
+          (s .args .r .now) (s .args .w .now) (s .args .y .now) (s .args .xn .now) (s .args .rn .now) (l .loop .x) (l .loop .r) (l .loop .w) (l .loop .y) (l .loop .xn)
+          (l .loop .rn) (s .pre .0) (l .loop .inv .3) (l .loop .inv .4) (l .loop .inv .5) (l .loop .inv .6) (l .loop .inv .7) (l .loop .inv .8),
+      omega (arith, l .loop .inv .1, s .pre .1, t .loop-test .taken),
+    )
+
+-- src/tries.rt:99:13
+same-length : tie.Need-same-length Inv-loop μ-loop
+same-length c = search needs
+
+-- src/tries.rt:99:13
+same-length-2 : tie.Need-same-length-2 Inv-loop μ-loop
+same-length-2 c = search needs
+
+-- src/tries.rt:99:13
+same-length-3 : tie.Need-same-length-3 Inv-loop μ-loop
+same-length-3 c = search needs
+
+-- src/tries.rt:99:13
+same-length-4 : tie.Need-same-length-4 Inv-loop μ-loop
+same-length-4 c = search needs
+
+-- src/tries.rt:99:13
+same-length-5 : tie.Need-same-length-5 Inv-loop μ-loop
+same-length-5 c = search needs
+
+-- src/tries.rt:99:13
+same-length-6 : tie.Need-same-length-6 Inv-loop μ-loop
+same-length-6 c = search needs
+
+-- src/tries.rt:99:13
+returns : tie.Need-returns Inv-loop μ-loop
+returns c =
+    let i = c in
+    let o = i .before .before .before .before .before .before .before .before .before .before .before .before .before in
+    let t = o .before .before .before .before .before .before .before in
+    let l = t .before in
+    let s = l .before .before .before .before .before .before .before .before .before .before .before .before in
+    let P = problemOf (s .args .equations) (s .args .lines) (s .args .places .now) (s .args .chosen .now) (s .args .free .now) (s .args .rows) in
+    tries-stop P (s .args .j .now) (s .args .a .now) (s .args .m) (l .loop .counter) (stateOf (l .loop .x) (l .loop .r) (l .loop .f))
+    (o .one-try .last .1 .1 .1 .1 .1 .1 .1 .0) (o .one-try .last .1 .1 .1 .1 .1 .1 .1 .1 .0) (o .one-try .result) _ (t .loop-test .taken) (o .one-try .ensures) (l .loop .inv .2) (i .if1 .taken)
+
+-- src/tries.rt:94:9
+add-counter : tie.Need-add-counter Inv-loop μ-loop
+add-counter c = search needs
+
+-- src/tries.rt:94:5
+loop-less : tie.Need-loop-less Inv-loop μ-loop
+loop-less c = search needs
+
+-- src/tries.rt:94:5
+loop-again : tie.Need-loop-again Inv-loop μ-loop
+loop-again c =
+    let i = c .before in
+    let o = i .before .before .before .before .before .before .before .before .before .before .before .before .before in
+    let t = o .before .before .before .before .before .before .before in
+    let l = t .before in
+    let s = l .before .before .before .before .before .before .before .before .before .before .before .before in
+    let P = problemOf (s .args .equations) (s .args .lines) (s .args .places .now) (s .args .chosen .now) (s .args .free .now) (s .args .rows) in
+    let q = one-more P (s .args .j .now) (s .args .a .now) (s .args .m) (stateOf (l .loop .x) (l .loop .r) (l .loop .f)) (o .one-try .last .1 .1 .1 .1 .1 .1 .1 .0) (o .one-try .last .1 .1 .1 .1 .1 .1 .1 .1 .0)
+    (o .one-try .result) (o .one-try .ensures) in (
+      search needs,
+      omega (arith, q, l .loop .inv .1),
+      tries-next P (s .args .j .now) (s .args .a .now) (s .args .m) (l .loop .counter) (stateOf (l .loop .x) (l .loop .r) (l .loop .f))
+          (o .one-try .last .1 .1 .1 .1 .1 .1 .1 .0) (o .one-try .last .1 .1 .1 .1 .1 .1 .1 .1 .0) (o .one-try .result) _ (t .loop-test .taken) (o .one-try .ensures) (l .loop .inv .2) (i .if1 .left),
+      o .one-try .kept .1 .1 .1 .1 .1 .1 .1 .0 ∙ l .loop .inv .3,
+      o .one-try .kept .1 .1 .1 .1 .1 .1 .1 .1 .0 ∙ l .loop .inv .4,
+      o .one-try .kept .1 .1 .1 .1 .1 .1 .1 .1 .1 .0 ∙ l .loop .inv .5,
+      o .one-try .kept .1 .1 .1 .1 .1 .1 .1 .1 .1 .1 .0 ∙ l .loop .inv .6,
+      o .one-try .kept .1 .1 .1 .1 .1 .1 .1 .1 .1 .1 .1 .0 ∙ l .loop .inv .7,
+      o .one-try .kept .1 .1 .1 .1 .1 .1 .1 .1 .1 .1 .1 .1 .0 ∙ l .loop .inv .8,
+    )
+
+-- src/tries.rt:70:1
+same-length-7 : tie.Need-same-length-7 Inv-loop μ-loop
+same-length-7 c = search needs
+
+-- src/tries.rt:70:1
+same-length-8 : tie.Need-same-length-8 Inv-loop μ-loop
+same-length-8 c = search needs
+
+-- src/tries.rt:70:1
+same-length-9 : tie.Need-same-length-9 Inv-loop μ-loop
+same-length-9 c = search needs
+
+-- src/tries.rt:70:1
+same-length-10 : tie.Need-same-length-10 Inv-loop μ-loop
+same-length-10 c = search needs
+
+-- src/tries.rt:70:1
+same-length-11 : tie.Need-same-length-11 Inv-loop μ-loop
+same-length-11 c = search needs
+
+-- src/tries.rt:70:1
+same-length-12 : tie.Need-same-length-12 Inv-loop μ-loop
+same-length-12 c = search needs
+
+-- src/tries.rt:70:1
+returns-2 : tie.Need-returns-2 Inv-loop μ-loop
+returns-2 c =
+    let t = c in
+    let l = t .before in
+    let s = l .before .before .before .before .before .before .before .before .before .before .before .before in
+    let P = problemOf (s .args .equations) (s .args .lines) (s .args .places .now) (s .args .chosen .now) (s .args .free .now) (s .args .rows) in
+    tries-done P (s .args .j .now) (s .args .a .now) (s .args .m) (l .loop .counter) (stateOf (l .loop .x) (l .loop .r) (l .loop .f)) _ (t .loop-test .left) (l .loop .inv .2)
+
+pub all-tries-spec : {M : Type 1} → statement M
+all-tries-spec =
+    tie.close
+    (tie.spec
+    Inv-loop
+    μ-loop
+    loop-holds
+    one-try-requires
+    same-length
+    same-length-2
+    same-length-3
+    same-length-4
+    same-length-5
+    same-length-6
+    returns
+    add-counter
+    loop-less
+    loop-again
+    same-length-7
+    same-length-8
+    same-length-9
+    same-length-10
+    same-length-11
+    same-length-12
+    returns-2)

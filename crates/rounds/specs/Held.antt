@@ -1,0 +1,87 @@
+-- What the code holds by value and in slices, in the definitions' terms.
+use Prim.Native.Nat.{ℕ, _+_, _-_, _*_, _≤_}
+use mathlib.Core.Bool.{Bool, true, false, cond}
+use mathlib.Core.List.{List}
+use mathlib.Core.Path.{_≡_}
+use lib.Dec.{eqb}
+use lib.Ieee.{Float}
+use lib.ListN.{length}
+use Rattle.floats.specs.Magnitude.{maxOf}
+use Rattle.floats.specs.Ops.{_⊗_, ten, tenth, 1e-10, 1e-15}
+use Rattle.sketch.specs.declared.Active.{Active}
+use Rattle.sketch.specs.declared.Line.{Line}
+use Rattle.solver.specs.Sums.{norm2Of}
+use Rattle.solver.specs.declared.Elimination.{Elimination}
+use Rattle.solver.specs.declared.Elimination.the-variants.{Solved, None, TooMany, TooShort}
+use Rattle.rounds.specs.Problem.{rowCount, valuesAt}
+use Rattle.rounds.specs.Solve.{Trial, Outcome, converged, failed}
+use Rattle.rounds.specs.declared.Attempted.{Attempted}
+use Rattle.rounds.specs.declared.Ended.{Ended}
+use Rattle.rounds.specs.declared.Fit.{Fit}
+use Rattle.rounds.specs.declared.Step.{Step}
+
+-- ---- the steps of `Fit`, each a step of the state that it is part of
+
+abbrev pub startedFit : Float → Fit
+startedFit cost = record { cost = cost; mu = 1e-10; polish = 3; iterations = 0; tries = 0 }
+
+abbrev pub begunFit : Fit → Fit
+begunFit f = record { cost = f .cost; mu = f .mu; polish = f .polish; iterations = f .iterations + 1; tries = f .tries }
+
+abbrev pub takenFit : Fit → Float → Fit
+takenFit f cost = record { cost = cost; mu = maxOf (f .mu ⊗ tenth) 1e-15; polish = f .polish; iterations = f .iterations; tries = f .tries + 1 }
+
+abbrev pub harderFit : Fit → Fit
+harderFit f = record { cost = f .cost; mu = f .mu ⊗ ten; polish = f .polish; iterations = f .iterations; tries = f .tries + 1 }
+
+abbrev pub polishedFit : Fit → Fit
+polishedFit f = record { cost = f .cost; mu = f .mu; polish = f .polish - 1; iterations = f .iterations; tries = f .tries }
+
+-- ---- an attempt
+
+-- what an elimination's answer is to an attempt
+abbrev pub isSolved : Elimination → Bool
+isSolved Solved = true
+isSolved None = false
+isSolved TooMany = false
+isSolved TooShort = false
+
+-- the trial whose coordinates and residuals lie in two slices
+abbrev pub trialMade : List Float → List Float → Trial
+trialMade xn rn = record { x = xn; r = rn; cost = norm2Of rn }
+
+-- how long the slices of an attempt are
+pub record Shapes (es : List Active) (chosen : List ℕ) (rows nf : ℕ) (free : List ℕ) (j a x r w y xn rn : List Float) : Type 0 where
+  pub chosen-few : length chosen ≤ 40
+  pub counted : rows ≡ rowCount es chosen
+  pub few : rows ≤ 80
+  pub free-long : length free ≡ nf
+  pub jacobian-long : length j ≡ rows * nf
+  pub product-long : length a ≡ rows * rows
+  pub residuals-long : length r ≡ rows
+  pub work-long : rows * rows ≤ length w
+  pub answer-long : length y ≡ rows
+  pub trial-long : length xn ≡ length x
+  pub values-long : length rn ≡ rows
+
+-- ---- a round
+
+-- the residuals r are those at x, and there are no more free coordinates than a Jacobian has columns
+pub record Apt (es : List Active) (ls : List Line) (places chosen : List ℕ) (nf : ℕ) (x r : List Float) : Type 0 where
+  pub own : r ≡ valuesAt es ls places chosen x
+  pub narrow : nf ≤ 80
+
+-- by whether the fit is within the tolerance, a try was taken, and the polishing steps are spent
+abbrev pub stepBy : Bool → Bool → Bool → Fit → Step
+stepBy true false spent f = record { ended = true; converged = true; fit = f }
+stepBy true true true f = record { ended = true; converged = true; fit = f }
+stepBy true true false f = record { ended = false; converged = false; fit = polishedFit f }
+stepBy false true spent f = record { ended = false; converged = false; fit = f }
+stepBy false false spent f = record { ended = true; converged = false; fit = f }
+
+abbrev pub stepOf : Bool → Attempted → Step
+stepOf w t = stepBy w (t .improved) (eqb (t .fit .polish) 0) (t .fit)
+
+-- where a fit has ended, with its coordinates in a slice
+abbrev pub endedOf : List Float → Ended → Outcome
+endedOf x e = cond (e .converged) (converged x (e .fit .iterations) (e .fit .tries)) (failed (e .fit .iterations) (e .fit .tries))

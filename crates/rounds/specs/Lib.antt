@@ -1,0 +1,6 @@
+pub mod Solve
+pub mod Holds
+pub mod Problem
+pub mod Column
+pub mod Held
+pub mod Promise

@@ -1,0 +1,53 @@
+// The damped fit of chosen equations (solver.rs, `solve`): rounds of tries, each a step that is taken where it lowers the cost.
+mod attempt;
+mod opening;
+mod round;
+mod state;
+mod tries;
+
+pub use opening::solve;
+
+// Where the fit stands beside its coordinates and residuals: `cost`, `mu`, `polish`, and the rounds and tries begun.
+pub struct Fit {
+    pub cost: f64,
+    pub mu: f64,
+    pub polish: usize,
+    pub iterations: usize,
+    pub tries: usize,
+}
+
+// What a try came to, or a round's tries: whether one was taken, and where the fit stands.
+pub struct Attempted {
+    pub improved: bool,
+    pub fit: Fit,
+}
+
+// What a round leads to.
+pub struct Step {
+    pub ended: bool,
+    pub converged: bool,
+    pub fit: Fit,
+}
+
+// How a fit ended, and where it stood.
+pub struct Ended {
+    pub converged: bool,
+    pub fit: Fit,
+}
+
+// What a call came to. A refusal changes nothing that is lent.
+pub enum Ending {
+    Converged,
+    // No coordinates are handed out.
+    Failed,
+    // 3: more than 40 equations, or 80 coordinates or free ones.
+    TooMany,
+    // 9: a work area shorter than 6,400, the most that 80 rows and 80 free coordinates take.
+    TooShort,
+}
+
+pub struct Solved {
+    pub ending: Ending,
+    pub iterations: usize,
+    pub tries: usize,
+}
