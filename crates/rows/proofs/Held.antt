@@ -17,7 +17,7 @@ use Rattle.rows.specs.Kinds.{rowsOfEquation}
 use Rattle.rows.specs.Located.{atOf}
 use Rattle.rows.specs.declared.Entry.{Entry}
 use Rattle.rows.specs.declared.Gradients.{Gradients}
-use Rattle.rows.specs.declared.Values.{Values}
+use Rattle.rows.specs.declared.answer.Values.{Values}
 use Rattle.rows.proofs.Bounded.{Bounded}
 
 -- a row's place in a table of at most 80 rows and 80 columns

@@ -12,7 +12,7 @@ use Rattle.sketch.specs.declared.PointNo.{PointNo}
 use Rattle.rows.specs.declared.Entry.{Entry}
 use Rattle.rows.specs.declared.Gradient.{Gradient}
 use Rattle.rows.specs.declared.Gradients.{Gradients}
-use Rattle.rows.specs.declared.Values.{Values}
+use Rattle.rows.specs.declared.answer.Values.{Values}
 
 pub record Row : Type 0 where
   pub value : Float

@@ -1,6 +1,7 @@
 // The residuals of the equations at given coordinates, and their gradients in dense rows (equations.rs, `residuals`, and
 // solver.rs, `dense`). A point's place among the group's points comes from a table, and so does a coordinate's position
 // among the free ones.
+mod answer;
 mod dense;
 mod located;
 mod residual;
@@ -10,6 +11,7 @@ mod sweep;
 mod vectors;
 
 use plane::Vec2;
+pub use residual::values;
 use sketch::PointNo;
 pub use sweep::jacobian;
 pub use sweep::residuals;
@@ -30,12 +32,5 @@ pub struct Gradient {
 pub struct Gradients {
     pub first: Gradient,
     pub second: Gradient,
-    pub count: usize,
-}
-
-// The residuals of an equation's rows: none, one or two.
-pub struct Values {
-    pub first: f64,
-    pub second: f64,
     pub count: usize,
 }
