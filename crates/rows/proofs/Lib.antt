@@ -1,3 +1,3 @@
 pub mod Bounded
 pub mod Held
-pub mod Taken
+pub mod Within

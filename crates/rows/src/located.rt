@@ -15,7 +15,7 @@ use sketch::LineNo;
 use sketch::PointNo;
 
 // A line's ends, and point 0 twice where there is no such line.
-pub(crate) fn line_at(lines: [Line; 40], l: LineNo) -> Line
+pub fn line_at(lines: [Line; 40], l: LineNo) -> Line
     ensures { λ r. ⌜ r ≡ lineAt lines l ⌝ }
 {
     let at = l.0;
@@ -29,13 +29,13 @@ pub(crate) fn line_at(lines: [Line; 40], l: LineNo) -> Line
     }
 }
 
-pub(crate) fn wide(k: u8) -> usize
+pub fn wide(k: u8) -> usize
     ensures { λ r. ⌜ (r ≡ k) × (r < 256) ⌝ }
 {
     k as usize
 }
 
-pub(crate) fn local(places: &[u8], p: PointNo) -> usize
+pub fn local(places: &[u8], p: PointNo) -> usize
     ensures { λ r. ⌜ (r ≡ localOf (now (places .entry)) p) × (r < 256) ⌝ }
 {
     let at = p.0;
@@ -57,7 +57,7 @@ pub(crate) fn at(places: &[u8], x: &[f64], p: PointNo) -> Vec2
 }
 
 // The direction from a to b, and the distance.
-pub(crate) fn toward(places: &[u8], x: &[f64], a: PointNo, b: PointNo) -> Dir
+pub fn toward(places: &[u8], x: &[f64], a: PointNo, b: PointNo) -> Dir
     ensures { λ r. ⌜ r ≡ unitFromOf (atOf (now (places .entry)) (now (x .entry)) a) (atOf (now (places .entry)) (now (x .entry)) b) ⌝ }
 {
     plane::unit_from(at(places, x, a), at(places, x, b))
@@ -71,14 +71,14 @@ pub(crate) fn apart(places: &[u8], x: &[f64], a: PointNo, b: PointNo) -> f64
 }
 
 // The vector from a to b.
-pub(crate) fn offset(places: &[u8], x: &[f64], a: PointNo, b: PointNo) -> Vec2
+pub fn offset(places: &[u8], x: &[f64], a: PointNo, b: PointNo) -> Vec2
     ensures { λ r. ⌜ r ≡ subOf (atOf (now (places .entry)) (now (x .entry)) b) (atOf (now (places .entry)) (now (x .entry)) a) ⌝ }
 {
     plane::sub(at(places, x, b), at(places, x, a))
 }
 
 // The vector from a to the middle of p and q.
-pub(crate) fn middle(places: &[u8], x: &[f64], p: PointNo, q: PointNo, a: PointNo) -> Vec2
+pub fn middle(places: &[u8], x: &[f64], p: PointNo, q: PointNo, a: PointNo) -> Vec2
     ensures { λ r. ⌜ r ≡ middleOf (atOf (now (places .entry)) (now (x .entry))) p q a ⌝ }
 {
     let m = times_vec(0.5, plus_vec(at(places, x, p), at(places, x, q)));
@@ -86,7 +86,7 @@ pub(crate) fn middle(places: &[u8], x: &[f64], p: PointNo, q: PointNo, a: PointN
 }
 
 // The direction and the length of a line.
-pub(crate) fn dir(places: &[u8], x: &[f64], l: Line) -> Dir
+pub fn dir(places: &[u8], x: &[f64], l: Line) -> Dir
     ensures { λ r. ⌜ r ≡ dirOf (atOf (now (places .entry)) (now (x .entry))) l ⌝ }
 {
     toward(places, x, l.from, l.to)

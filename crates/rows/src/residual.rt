@@ -4,7 +4,7 @@ ghost use mathlib.Core.List.{[], _∷_};
 ghost use Rattle.rows.specs.Entries.{valuesOf, emit};
 ghost use Rattle.rows.specs.Kinds.{radiusOf, firstSign, secondSign, coincidentOf, levelOf, parallelOf, perpendicularOf, collinearOf, equalOf, distanceOf, axisDistanceOf, lengthOf, pointLineOf, arcEndsOf, radiusKindOf, lineCircleOf, circleCircleOf, lineArcAtOf, arcArcAtOf, midpointOf, arcMidpointOf, symmetricOf, equalRadiusOf, rowsOfEquation};
 ghost use Rattle.rows.specs.Located.{atOf};
-use crate::Values;
+use crate::answer::Values;
 use crate::located::apart;
 use crate::located::at;
 use crate::located::dir;

@@ -4,19 +4,19 @@ ghost use Rattle.rows.specs.Kinds.{turnedDown, turnedUp, sideDown, sideU
 use plane::Vec2;
 use sketch::Contact;
 
-pub(crate) fn turned_down(v: Vec2) -> Vec2
+pub fn turned_down(v: Vec2) -> Vec2
     ensures { λ r. ⌜ r ≡ turnedDown v ⌝ }
 {
     Vec2 { x: v.y, y: -v.x }
 }
 
-pub(crate) fn turned_up(v: Vec2) -> Vec2
+pub fn turned_up(v: Vec2) -> Vec2
     ensures { λ r. ⌜ r ≡ turnedUp v ⌝ }
 {
     Vec2 { x: -v.y, y: v.x }
 }
 
-pub(crate) fn side_down(side: f64, v: Vec2) -> Vec2
+pub fn side_down(side: f64, v: Vec2) -> Vec2
     ensures { λ r. ⌜ r ≡ sideDown side v ⌝ }
 {
     Vec2 {
@@ -25,7 +25,7 @@ pub(crate) fn side_down(side: f64, v: Vec2) -> Vec2
     }
 }
 
-pub(crate) fn side_up(side: f64, v: Vec2) -> Vec2
+pub fn side_up(side: f64, v: Vec2) -> Vec2
     ensures { λ r. ⌜ r ≡ sideUp side v ⌝ }
 {
     Vec2 {
@@ -34,7 +34,7 @@ pub(crate) fn side_up(side: f64, v: Vec2) -> Vec2
     }
 }
 
-pub(crate) fn times_vec(k: f64, v: Vec2) -> Vec2
+pub fn times_vec(k: f64, v: Vec2) -> Vec2
     ensures { λ r. ⌜ r ≡ times k v ⌝ }
 {
     Vec2 {
@@ -43,7 +43,7 @@ pub(crate) fn times_vec(k: f64, v: Vec2) -> Vec2
     }
 }
 
-pub(crate) fn plus_vec(a: Vec2, b: Vec2) -> Vec2
+pub fn plus_vec(a: Vec2, b: Vec2) -> Vec2
     ensures { λ r. ⌜ r ≡ plus a b ⌝ }
 {
     Vec2 {
@@ -58,7 +58,7 @@ pub(crate) fn along_axis(axis: usize, v: Vec2) -> f64
     if axis == 0 { v.x } else { v.y }
 }
 
-pub(crate) fn on_axis(axis: usize, v: f64) -> Vec2
+pub fn on_axis(axis: usize, v: f64) -> Vec2
     ensures { λ r. ⌜ r ≡ onAxis axis v ⌝ }
 {
     if axis == 0 {
@@ -69,7 +69,7 @@ pub(crate) fn on_axis(axis: usize, v: f64) -> Vec2
 }
 
 // The signs of two radii in contact.
-pub(crate) fn first_sign(contact: Contact) -> f64
+pub fn first_sign(contact: Contact) -> f64
     ensures { λ r. ⌜ r ≡ firstSign contact ⌝ }
 {
     match contact {
@@ -78,7 +78,7 @@ pub(crate) fn first_sign(contact: Contact) -> f64
     }
 }
 
-pub(crate) fn second_sign(contact: Contact) -> f64
+pub fn second_sign(contact: Contact) -> f64
     ensures { λ r. ⌜ r ≡ secondSign contact ⌝ }
 {
     match contact {

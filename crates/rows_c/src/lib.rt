@@ -1,4 +1,4 @@
-// The sweeps of `rows` for programs in Rust, to compare and to time: a build comes as tables of numbers.
+// The sweeps of `rows` and `slopes` for programs in Rust, to compare and to time: a build comes as tables of numbers.
 ghost use Prim.Native.Nat.{_<_};
 use sketch::Active;
 use sketch::Contact;
@@ -151,7 +151,7 @@ pub extern "C" fn rows_residuals(
     n
 }
 
-// `rows::jacobian`, `times` times over.
+// `slopes::jacobian`, `times` times over.
 #[no_mangle]
 pub extern "C" fn rows_jacobian(
     words: &[usize],
@@ -169,7 +169,7 @@ pub extern "C" fn rows_jacobian(
     let spans = lines(ends);
     let mut n = 0;
     for _ in 0..times {
-        n = rows::jacobian(all, spans, chosen, places, columns, free, x, j);
+        n = slopes::jacobian(all, spans, chosen, places, columns, free, x, j);
     }
     n
 }

@@ -7,9 +7,9 @@ use lib.ListN.{length, drop}
 use Rattle.loops.specs.Picks.{pick-yes, pick-no}
 use Rattle.loops.specs.Turns.{fold, fold-done}
 use Rattle.sketch.specs.declared.Active.{Active}
-use Rattle.rows.specs.Dense.{laid, heldActive, valuesNext, columnOf}
+use Rattle.rows.specs.Column.{laid, heldActive, valuesNext, columnOf}
 use Rattle.rows.proofs.Held.{values-turn, values-past}
-use Rattle.rows.proofs.Taken.{any-default}
+use Rattle.rows.proofs.Within.{any-default}
 use Rattle.rows.proofs.sweep.residuals.Statement.{statement}
 use Rattle.rows.proofs.sweep.residuals.Tie as tie
 

@@ -1,0 +1,6 @@
+// The residuals of an equation's rows: none, one or two.
+pub struct Values {
+    pub first: f64,
+    pub second: f64,
+    pub count: usize,
+}

@@ -1,0 +1,73 @@
+// The gradients of a list of equations, dense row after row in a lent slice.
+ghost use mathlib.Core.Path.{_≡_};
+ghost use Prim.Native.Nat.{_+_, _≤_};
+ghost use Rattle.loops.specs.Turns.{fold};
+ghost use Rattle.rows.specs.Column.{laid};
+ghost use Rattle.rows.specs.Kinds.{rowsOfEquation};
+ghost use Rattle.rows.specs.Located.{atOf};
+ghost use Rattle.slopes.specs.Dense.{nextRow, jacobianOf};
+use crate::dense::row_into;
+use crate::slope::gradients;
+use sketch::Active;
+use sketch::Equation;
+use sketch::Line;
+
+// Puts the gradients of an equation's rows, n places each, from `row` on, and answers the row after them.
+fn rows_into(
+    j: &mut [f64],
+    row: usize,
+    e: Equation,
+    lines: [Line; 40],
+    places: &[u8],
+    columns: &[u8],
+    n: usize,
+    x: &[f64],
+) -> usize
+    requires { ⌜ (row ≤ 78) × (n ≤ 80) ⌝ }
+    ensures { λ m. ⌜ (laid m (now (j .exit)) ≡ fold (nextRow (now (places .entry)) (now (columns .entry)) n) (laid row (now (j .entry))) (rowsOfEquation lines (atOf (now (places .entry)) (now (x .entry))) e)) × (m ≤ row + 2) ⌝ }
+{
+    let g = gradients(e, lines, places, x);
+    if g.count == 0 {
+        return row;
+    }
+    let first = g.first;
+    row_into(j, places, columns, n, row * n, first);
+    let next = row + 1;
+    if g.count == 1 {
+        return next;
+    }
+    let second = g.second;
+    row_into(j, places, columns, n, next * n, second);
+    next + 1
+}
+
+// The gradients of the rows of the chosen equations at the coordinates x, over n free coordinates, row after row in j, and how many
+// rows they are. More than 40 equations or 80 free coordinates are refused: none, and j as it was.
+pub fn jacobian(
+    equations: [Active; 40],
+    lines: [Line; 40],
+    chosen: &[usize],
+    places: &[u8],
+    columns: &[u8],
+    n: usize,
+    x: &[f64],
+    j: &mut [f64],
+) -> usize
+    ensures { λ m. ⌜ laid m (now (j .exit)) ≡ jacobianOf equations lines (now (places .entry)) (now (x .entry)) (now (columns .entry)) n (now (chosen .entry)) (now (j .entry)) ⌝ }
+{
+    if (40 < chosen.len()) | (80 < n) {
+        return 0;
+    }
+    let mut row = 0;
+    for i in 0..chosen.len() {
+        let k = chosen[i];
+        // Past the end there is `Held`, which has no row.
+        if 40 <= k {
+            continue;
+        }
+        let a = equations[k];
+        let e = a.equation;
+        row = rows_into(j, row, e, lines, places, columns, n, x);
+    }
+    row
+}
