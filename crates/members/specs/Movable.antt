@@ -1,8 +1,10 @@
 -- equations.rs, `fit`, its first lines: the points of a group, and the coordinates that the fit may move.
-use Prim.Native.Nat.{ℕ, _+_, _*_}
+use Prim.Native.Nat.{ℕ, _+_, _*_, _≤_}
 use mathlib.Core.Bool.{Bool, true, false, cond}
 use mathlib.Core.List.{List, [], _∷_, map}
+use mathlib.Core.Path.{_≡_, refl}
 use lib.ListN.{length, getD, take, set}
+use lib.Seq.{take-at}
 use Rattle.floats.specs.Ops.{zero⁺}
 use Rattle.sketch.specs.declared.Point.{Point}
 use Rattle.sketch.specs.declared.State.{State}
@@ -39,6 +41,15 @@ coordinatesOf l = record { items = headed 80 l; count = length l }
 -- the coordinates that are held: as many as the count says, and no more than there are places
 abbrev pub indicesOf : Coordinates → List ℕ
 indicesOf f = take (f .count) (f .items)
+
+-- what the call that finds them promises: f holds cs, and there is room for them
+pub record Holds (f : Coordinates) (cs : List ℕ) : Type 0 where
+  pub is : f ≡ coordinatesOf cs
+  pub few : length cs ≤ 80
+
+-- so that they can be read back
+pub indices-are : (f : Coordinates) (cs : List ℕ) → Holds f cs → indicesOf f ≡ cs
+indices-are f cs t = rw (t .is) (take-at cs _ (length cs) refl)
 
 -- the two coordinates of the k-th point, if they are wanted
 unfoldable pub pushedTwo : Bool → ℕ → Coordinates → Coordinates

@@ -1,10 +1,18 @@
 // What the fit of a group is about (equations.rs, `Group`, `fit`, `scaled`, `unscale`; solver.rs, `columns`): its points and
 // equations by their numbers, which of its coordinates may move, where they start, and how they come back to their size.
+mod lists;
 mod movable;
 mod scale;
+mod tables;
 
+pub use lists::equations_of;
+pub use lists::points_of;
+pub use lists::without;
 pub use movable::fixed;
+pub use movable::free;
 pub use scale::scaled;
+pub use tables::columns;
+pub use tables::places;
 
 // The numbers of a group's points or equations, rising, and 0 past the count.
 pub struct Listed {
