@@ -3,6 +3,8 @@
 use Prim.Native.Nat.{ℕ, _+_, _*_}
 use mathlib.Core.Bool.{cond}
 use mathlib.Core.List.{List, [], _∷_, _++_}
+use mathlib.Core.Path.{_≡_, refl}
+use native.Mathlib.Omega.{arith}
 use lib.Dec.{ltb, leb}
 use lib.Ieee.{Float, nan, eq}
 use lib.ListN.{length, getD, drop, set}
@@ -31,6 +33,12 @@ scaledOf centre size p = inUnits centre size (standing (p .state) (p .start))
 unfoldable pub startOf : Vec2 → Float → List Point → List Float
 startOf centre size [] = []
 startOf centre size (p ∷ ps) = scaledOf centre size p .x ∷ scaledOf centre size p .y ∷ startOf centre size ps
+
+-- two numbers for each point
+pub start-length : (centre : Vec2) (size : Float) (ps : List Point) → length (startOf centre size ps) ≡ 2 * length ps
+unfolding startOf
+start-length centre size [] = refl
+start-length centre size (p ∷ ps) = omega (arith, start-length centre size ps)
 
 -- at the head of a lent slice; where it is too short nothing happens
 unfoldable pub startIn : Vec2 → Float → List Point → List Float → List Float

@@ -11,6 +11,8 @@ pub use lists::without;
 pub use movable::fixed;
 pub use movable::free;
 pub use scale::scaled;
+pub use scale::start;
+pub use scale::unscale;
 pub use tables::columns;
 pub use tables::places;
 
