@@ -5,7 +5,7 @@ use mathlib.Core.Bool.{Bool, true, false, cond}
 use mathlib.Core.List.{List, [], _∷_, _++_, append-nil, append-assoc}
 use mathlib.Core.Path.{_≡_, refl, sym, ap, _∙_}
 use native.Mathlib.Omega.{arith}
-use lib.ListN.{length, set, replicate, length-append}
+use lib.ListN.{length, set, length-append}
 use lib.Seq.{set-append-seam}
 use Rattle.members.specs.Lists.{headed, listedOf, Lists, pushedOf}
 use Rattle.members.specs.Movable.{coordinatesOf, Holds, pushedTwo}

@@ -14,7 +14,7 @@ use Rattle.plane.specs.declared.Vec2.{Vec2}
 use Rattle.sketch.specs.declared.Point.{Point}
 use Rattle.sketch.specs.declared.State.{State}
 use Rattle.sketch.specs.declared.State.the-variants.{Free, Kept, Placed}
-use Rattle.members.specs.Movable.{nowhere, pointsAt}
+use Rattle.members.specs.Movable.{nowhere}
 
 -- `self.fixed_at[p].unwrap_or(self.start[p])`
 abbrev pub standing : State → Vec2 → Vec2
