@@ -1,0 +1,78 @@
+// Which points are fixed, and the coordinates that a fit may move.
+ghost use mathlib.Core.List.{[]};
+ghost use mathlib.Core.Path.{_≡_};
+ghost use Prim.Native.Nat.{_*_, _≤_, _<_};
+ghost use lib.ListN.{getD};
+ghost use Rattle.members.specs.Lists.{numbersOf};
+ghost use Rattle.members.specs.Movable.{Holds, fixedOf, nowhere, pointsAt, freeFrom, coordinatesOf, pushedTwo};
+use crate::Coordinates;
+use crate::Listed;
+use crate::lists::smaller;
+use plane::Vec2;
+use sketch::Point;
+use sketch::State;
+
+// Kept where it was drawn, or placed.
+pub fn fixed(p: Point) -> bool
+    ensures { λ r. ⌜ r ≡ fixedOf p ⌝ }
+{
+    let state = p.state;
+    match state {
+        State::Free => false,
+        State::Kept => true,
+        State::Placed(_) => true,
+    }
+}
+
+// The point with the number p, and past the last one that is kept at the origin.
+pub(crate) fn point_at(points: [Point; 40], p: usize) -> Point
+    ensures { λ r. ⌜ r ≡ getD points p nowhere ⌝ }
+{
+    if p < 40 {
+        points[p]
+    } else {
+        Point {
+            start: Vec2 { x: 0.0, y: 0.0 },
+            state: State::Kept,
+        }
+    }
+}
+
+fn none_free() -> Coordinates
+    ensures { λ r. ⌜ r ≡ coordinatesOf [] ⌝ }
+{
+    Coordinates {
+        items: [0; 80],
+        count: 0,
+    }
+}
+
+// The two coordinates of the k-th point, if they are wanted.
+fn pushed_two(f: Coordinates, k: usize, wanted: bool) -> Coordinates
+    requires { ⌜ (k < 40) × (f .count ≤ 2 * k) ⌝ }
+    ensures { λ r. ⌜ r ≡ pushedTwo wanted k f ⌝ }
+{
+    if !wanted {
+        return f;
+    }
+    let n = f.count;
+    let m = n + 1;
+    let mut r = f;
+    r.items[n] = 2 * k;
+    r.items[m] = 2 * k + 1;
+    r.count = n + 2;
+    r
+}
+
+// The free coordinates of the listed points.
+pub fn free(points: [Point; 40], l: Listed) -> Coordinates
+    ensures { λ r. ⌜ Holds r (freeFrom 0 (pointsAt points (numbersOf l))) ⌝ }
+{
+    let n = smaller(l.count, 40);
+    let mut f = none_free();
+    for k in 0..n {
+        let p = l.items[k];
+        f = pushed_two(f, k, !fixed(point_at(points, p)));
+    }
+    f
+}
