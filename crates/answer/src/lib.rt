@@ -2,6 +2,7 @@
 // blank: zeros, and no suspects.
 ghost use mathlib.Core.Path.{_≡_};
 ghost use Rattle.answer.specs.Endings.{blankGroup, refusedOf, failedOf, fittedOf};
+ghost use Rattle.sketch.specs.Check.{numberOf};
 use sketch::Ending;
 
 // A group that was fitted: its lowest point, its freedom, its iterations and tries.
@@ -78,5 +79,22 @@ pub fn fitted(count: usize, groups: [GroupFit; 40], freedom: usize, worst: f64) 
         worst,
         groups,
         suspects: [false; 40],
+    }
+}
+
+// Document 01's number of an ending.
+pub fn number(e: Ending) -> usize
+    ensures { λ r. ⌜ r ≡ numberOf e ⌝ }
+{
+    match e {
+        Ending::Fitted => 0,
+        Ending::TooLong => 1,
+        Ending::BadForm => 2,
+        Ending::TooMany => 3,
+        Ending::OutOfBounds => 4,
+        Ending::NoSuchItem => 5,
+        Ending::TooManyRows => 6,
+        Ending::NotConverged => 7,
+        Ending::TooShort => 9,
     }
 }
