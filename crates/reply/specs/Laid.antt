@@ -1,0 +1,23 @@
+-- Bytes one after another in a lent slice. A store past the end of the slice does nothing, so that the length of a reply is known
+-- from laying it where there is no room.
+use mathlib.Core.Bool.{cond}
+use mathlib.Core.List.{List, _++_}
+use Prim.Native.Nat.{ℕ, _+_}
+use lib.Dec.{ltb, leb}
+use lib.ListN.{length, drop, set}
+use Rattle.loops.specs.Turns.{fold}
+
+-- how many bytes are laid so far, and what is in the slice
+pub data Laid : Type 0 where
+  laid : ℕ → List ℕ → Laid
+
+-- one byte more; past 8,192 there is none, so that the count fits whatever is laid (no reply is that long, `short`)
+unfoldable pub nextByte : Laid → ℕ → Laid
+nextByte (laid n s) b = cond (ltb n 8192) (laid (n + 1) (set s n b)) (laid n s)
+
+abbrev pub laying : List ℕ → Laid → Laid
+laying bs s = fold nextByte s bs
+
+-- what is written to a slice: the bytes at its head where it has room for them all, and else nothing
+unfoldable pub writtenOf : List ℕ → List ℕ → List ℕ
+writtenOf bs s = cond (leb (length bs) (length s)) (bs ++ drop (length bs) s) s
