@@ -4,16 +4,10 @@ use mathlib.Core.List.{List, [], _∷_, _++_}
 use mathlib.Core.Path.{_≡_, refl, sym, _∙_}
 use native.Mathlib.Numerals.{add-one}
 use native.Mathlib.Omega.{arith}
-use borrow.Author.Tests.{lt-ltb, le-ltb}
 use Rattle.loops.specs.Turns.{fold}
-use Rattle.reply.specs.Figures.{digitByte, wholeIn, hexByte, hexIn}
-use Rattle.reply.specs.Laid.{Laid, nextByte, laying}
+use Rattle.reply.specs.Figures.{digitByte, wholeIn, whole-one, whole-more, hexByte, hexIn}
+use Rattle.reply.specs.Laid.{Laid, nextByte, laying, fold-append}
 use Rattle.reply.specs.Reply.{rising}
-
-laying-append : (p q : List ℕ) (s : Laid) → laying (p ++ q) s ≡ laying q (laying p s)
-unfolding fold
-laying-append [] q s = refl
-laying-append (b ∷ p) q s = laying-append p q (nextByte s b)
 
 laying-one : (b : ℕ) (s : Laid) → laying (b ∷ []) s ≡ nextByte s b
 unfolding fold
@@ -21,7 +15,7 @@ laying-one b s = refl
 
 module _ (s t u : Laid) where
   pub then : (p q : List ℕ) → t ≡ laying p s → u ≡ laying q t → u ≡ laying (p ++ q) s
-  then p q e f = f ∙ rw e (sym (laying-append p q s))
+  then p q e f = f ∙ rw e (sym (fold-append nextByte s p q))
 
   pub last : (p : List ℕ) (b : ℕ) → t ≡ laying p s → u ≡ nextByte t b → u ≡ laying (p ++ b ∷ []) s
   last p b e f = then p (b ∷ []) e (f ∙ sym (laying-one b t))
@@ -31,15 +25,6 @@ module _ (s t u : Laid) where
 pub no-digit : (s : Laid) (k n : ℕ) → k ≡ 0 → s ≡ laying (wholeIn k n) s
 unfolding wholeIn fold
 no-digit s k n e = rw e
-
--- a number of one digit, and one of more
-whole-one : (k n : ℕ) → n < 10 → wholeIn (suc k) n ≡ digitByte n ∷ []
-unfolding wholeIn
-whole-one k n h = rw (lt-ltb n 10 h)
-
-whole-more : (k n : ℕ) → 10 ≤ n → wholeIn (suc k) n ≡ wholeIn k (n / 10) ++ digitByte n ∷ []
-unfolding wholeIn
-whole-more k n h = rw (le-ltb n 10 h)
 
 pub one-digit : (s u : Laid) (n b k : ℕ) → (k ≡ 0 → ⊥) → n < 10 → b ≡ digitByte n → u ≡ nextByte s b → u ≡ laying (wholeIn k n) s
 one-digit s u n b zero z h e f = absurd (z refl)

@@ -8,7 +8,8 @@ use borrow.Author.Tests.{lt-ltb, le-leb, lt-leb}
 use lib.ListN.{length, length-append, set, drop}
 use Rattle.loops.specs.Parts.{set-past}
 use Rattle.loops.specs.Turns.{fold}
-use Rattle.reply.specs.Laid.{laid, nextByte, laying, writtenOf}
+use Rattle.reply.specs.Laid.{laid, nextByte, laying}
+use Rattle.reply.specs.Promise.{writtenOf}
 
 one-more : (n b : ℕ) (s : List ℕ) → n < 8192 → nextByte (laid n s) b ≡ laid (n + 1) (set s n b)
 unfolding nextByte

@@ -1,9 +1,11 @@
 -- How texts, whole numbers and floats are spelled in a reply (document 01, "The text").
 use mathlib.Core.Bool.{cond}
 use mathlib.Core.List.{List, [], _∷_, _++_}
+use mathlib.Core.Path.{_≡_}
 use Prim.Native.Char.{code}
-use Prim.Native.Nat.{ℕ, zero, suc, _+_, _/_, _%_}
+use Prim.Native.Nat.{ℕ, zero, suc, _+_, _/_, _%_, _≤_, _<_}
 use Prim.Native.String.{String, len, charAt}
+use borrow.Author.Tests.{lt-ltb, le-ltb}
 use lib.Dec.{ltb}
 use lib.Ieee.{Float, binary64, toBits}
 
@@ -25,6 +27,15 @@ digitByte n = 48 + n % 10
 unfoldable pub wholeIn : ℕ → ℕ → List ℕ
 wholeIn zero n = []
 wholeIn (suc k) n = let front = wholeIn k (n / 10) in cond (ltb n 10) [] front ++ digitByte n ∷ []
+
+-- a number of one digit, and one of more
+pub whole-one : (k n : ℕ) → n < 10 → wholeIn (suc k) n ≡ digitByte n ∷ []
+unfolding wholeIn
+whole-one k n h = rw (lt-ltb n 10 h)
+
+pub whole-more : (k n : ℕ) → 10 ≤ n → wholeIn (suc k) n ≡ wholeIn k (n / 10) ++ digitByte n ∷ []
+unfolding wholeIn
+whole-more k n h = rw (le-ltb n 10 h)
 
 -- a usize has at most twenty
 unfoldable pub wholeText : ℕ → List ℕ

@@ -1,10 +1,11 @@
 -- Bytes one after another in a lent slice. A store past the end of the slice does nothing, so that the length of a reply is known
 -- from laying it where there is no room.
 use mathlib.Core.Bool.{cond}
-use mathlib.Core.List.{List, _++_}
+use mathlib.Core.List.{List, [], _∷_, _++_}
+use mathlib.Core.Path.{_≡_, refl}
 use Prim.Native.Nat.{ℕ, _+_}
-use lib.Dec.{ltb, leb}
-use lib.ListN.{length, drop, set}
+use lib.Dec.{ltb}
+use lib.ListN.{set}
 use Rattle.loops.specs.Turns.{fold}
 
 -- how many bytes are laid so far, and what is in the slice
@@ -18,6 +19,8 @@ nextByte (laid n s) b = cond (ltb n 8192) (laid (n + 1) (set s n b)) (laid n s)
 abbrev pub laying : List ℕ → Laid → Laid
 laying bs s = fold nextByte s bs
 
--- what is written to a slice: the bytes at its head where it has room for them all, and else nothing
-unfoldable pub writtenOf : List ℕ → List ℕ → List ℕ
-writtenOf bs s = cond (leb (length bs) (length s)) (bs ++ drop (length bs) s) s
+-- a fold over two lists, one after the other
+pub fold-append : {A S : Type 0} (f : S → A → S) (s : S) (p q : List A) → fold f s (p ++ q) ≡ fold f (fold f s p) q
+unfolding fold
+fold-append f s [] q = refl
+fold-append f s (x ∷ p) q = fold-append f (f s x) p q

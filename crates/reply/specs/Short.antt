@@ -1,13 +1,13 @@
 -- No reply is longer than 8,192 bytes, whatever the answer: `short`. So a slice with that room has room for every reply.
 -- Assumes nothing.
 use mathlib.Core.Bool.{Bool, true, false, cond}
-use mathlib.Core.List.{List, [], _∷_, _++_}
+use mathlib.Core.List.{List, []}
 use mathlib.Core.Path.{_≡_, refl}
 use Prim.Native.Nat.{ℕ, zero, suc, _+_, _*_, _/_, _≤_, min}
 use native.Mathlib.Nat.{mul-le-mul-right, min-le-right}
 use native.Mathlib.Omega.{arith}
 use lib.Dec.{ltb}
-use lib.Ieee.{Float, binary64, toBits}
+use lib.Ieee.{Float}
 use lib.ListN.{length, length-append, getD}
 use Rattle.answer.specs.Endings.{blankGroup}
 use Rattle.answer.specs.declared.Answer.{Answer}
@@ -15,7 +15,7 @@ use Rattle.answer.specs.declared.GroupFit.{GroupFit}
 use Rattle.sketch.specs.Check.{numberOf}
 use Rattle.sketch.specs.declared.Ending.{Ending}
 use Rattle.sketch.specs.declared.Ending.the-variants.{Fitted, TooLong, BadForm, TooMany, OutOfBounds, NoSuchItem, TooManyRows, NotConverged, TooShort}
-use Rattle.reply.specs.Figures.{digitByte, wholeIn, wholeText, hexByte, hexIn, floatText, whole, float}
+use Rattle.reply.specs.Figures.{comma, newline, wholeIn, wholeText, hexIn, floatText, whole, float}
 use Rattle.reply.specs.Lines.{statusLine, totalLines, groupLine, failedLine, suspectLine, pointLine, measureLine}
 use Rattle.reply.specs.Reply.{rising, groupLines, outputLines, fittedLines, failedLines, linesAfter, replyOf}
 
@@ -44,25 +44,25 @@ float-long x b = simp (length-append, hex-long)
 
 status-short : (e : Ending) → length (statusLine e) ≤ 28
 unfolding statusLine
-status-short e = omega (arith, whole-short (numberOf e) 10)
+status-short e = omega (arith, whole-short (numberOf e) newline)
 
 totals-short : (a : Answer) → length (totalLines a) ≤ 80
 unfolding totalLines
-totals-short a = simp (length-append, float-long) (omega (arith, whole-short (a .«group_count») 10, whole-short (a .freedom) 10))
+totals-short a = simp (length-append, float-long) (omega (arith, whole-short (a .«group_count») newline, whole-short (a .freedom) newline))
 
 group-short : (g : GroupFit) → length (groupLine g) ≤ 86
 unfolding groupLine
 group-short g =
     simp length-append
-    (omega (arith, whole-short (g .lowest) 44, whole-short (g .freedom) 44, whole-short (g .iterations) 44, whole-short (g .tries) 10))
+    (omega (arith, whole-short (g .lowest) comma, whole-short (g .freedom) comma, whole-short (g .iterations) comma, whole-short (g .tries) newline))
 
 failed-short : (g : GroupFit) → length (failedLine g) ≤ 65
 unfolding failedLine
-failed-short g = simp length-append (omega (arith, whole-short (g .lowest) 44, whole-short (g .iterations) 44, whole-short (g .tries) 10))
+failed-short g = simp length-append (omega (arith, whole-short (g .lowest) comma, whole-short (g .iterations) comma, whole-short (g .tries) newline))
 
 suspect-short : (suspects : List Bool) (k : ℕ) → length (suspectLine suspects k) ≤ 23
 unfolding suspectLine
-suspect-short suspects k = either (getD suspects k false) _ [] 23 (omega (arith, whole-short k 10)) (omega arith)
+suspect-short suspects k = either (getD suspects k false) _ [] 23 (omega (arith, whole-short k newline)) (omega arith)
 
 point-short : (out : List Float) (i : ℕ) → length (pointLine out i) ≤ 36
 unfolding pointLine

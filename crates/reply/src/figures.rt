@@ -22,16 +22,16 @@ fn digits(reply: &mut [u8], at: usize, k: usize, n: usize) -> usize
     if n < 10 {
         return put(reply, at, digit(n));
     }
-    let next = digits(reply, at, k - 1, n / 10);
-    put(reply, next, digit(n))
+    let at = digits(reply, at, k - 1, n / 10);
+    put(reply, at, digit(n))
 }
 
 // A whole number and the byte after it. A usize has at most twenty digits.
 pub(crate) fn put_whole(reply: &mut [u8], at: usize, n: usize, b: u8) -> usize
     ensures { λ r. ⌜ laid r (now (reply .exit)) ≡ laying (whole n b) (laid at (now (reply .entry))) ⌝ }
 {
-    let next = digits(reply, at, 20, n);
-    put(reply, next, b)
+    let at = digits(reply, at, 20, n);
+    put(reply, at, b)
 }
 
 // The last hexadecimal digit.
@@ -49,8 +49,8 @@ fn hex_digits(reply: &mut [u8], at: usize, k: usize, b: u64) -> usize
     if k == 0 {
         return at;
     }
-    let next = hex_digits(reply, at, k - 1, b / 16);
-    put(reply, next, hex(b))
+    let at = hex_digits(reply, at, k - 1, b / 16);
+    put(reply, at, hex(b))
 }
 
 // A NaN has no bits of its own, so it is tested for first.
@@ -68,6 +68,6 @@ fn bits(x: f64) -> u64
 pub(crate) fn put_float(reply: &mut [u8], at: usize, x: f64, b: u8) -> usize
     ensures { λ r. ⌜ laid r (now (reply .exit)) ≡ laying (float x b) (laid at (now (reply .entry))) ⌝ }
 {
-    let next = hex_digits(reply, at, 16, bits(x));
-    put(reply, next, b)
+    let at = hex_digits(reply, at, 16, bits(x));
+    put(reply, at, b)
 }

@@ -4,19 +4,16 @@ mod laying;
 mod lines;
 mod parts;
 
-ghost use mathlib.Core.Path.{_≡_};
-ghost use lib.ListN.{length};
-ghost use Rattle.reply.specs.Laid.{writtenOf};
-ghost use Rattle.reply.specs.Reply.{replyOf};
+ghost use Rattle.reply.specs.Promise.{Writes};
 use answer::Answer;
 use parts::whole_reply;
 
 // Writes the reply to the head of `reply` where it has room for it, and nothing otherwise. Answers how long the reply is.
 pub fn write(a: Answer, points: usize, measures: usize, out: &[f64], reply: &mut [u8]) -> usize
-    ensures { λ r. ⌜ (r ≡ length (replyOf a (now (out .entry)) points measures)) × (now (reply .exit) ≡ writtenOf (replyOf a (now (out .entry)) points measures) (now (reply .entry))) ⌝ }
+    ensures { λ r. ⌜ Writes a (now (out .entry)) points measures (now (reply .entry)) (now (reply .exit)) r ⌝ }
 {
     // Where there is no room, laying only counts.
-    let mut none = [0u8; 1];
+    let mut none = [0u8; 0];
     let n = whole_reply(&mut none, a, points, measures, out);
     if n <= reply.len() {
         whole_reply(reply, a, points, measures, out);

@@ -69,8 +69,8 @@ fn output_lines(reply: &mut [u8], at: usize, out: &[f64], p: usize, m: usize) ->
     requires { ⌜ (p ≤ 40) × (m ≤ 20) ⌝ }
     ensures { λ r. ⌜ laid r (now (reply .exit)) ≡ laying (outputLines (now (out .entry)) p m) (laid at (now (reply .entry))) ⌝ }
 {
-    let next = point_lines(reply, at, out, p);
-    measure_lines(reply, next, out, p, m)
+    let at = point_lines(reply, at, out, p);
+    measure_lines(reply, at, out, p, m)
 }
 
 fn failed_lines(reply: &mut [u8], at: usize, a: Answer) -> usize
@@ -79,17 +79,17 @@ fn failed_lines(reply: &mut [u8], at: usize, a: Answer) -> usize
     let groups = a.groups;
     let suspects = a.suspects;
     let g = groups[0];
-    let next = failed_line(reply, at, g);
-    suspect_lines(reply, next, suspects)
+    let at = failed_line(reply, at, g);
+    suspect_lines(reply, at, suspects)
 }
 
 fn fitted_lines(reply: &mut [u8], at: usize, a: Answer, out: &[f64], p: usize, m: usize) -> usize
     requires { ⌜ (p ≤ 40) × (m ≤ 20) ⌝ }
     ensures { λ r. ⌜ laid r (now (reply .exit)) ≡ laying (fittedLines a (now (out .entry)) p m) (laid at (now (reply .entry))) ⌝ }
 {
-    let groups = total_lines(reply, at, a);
-    let points = group_lines(reply, groups, a);
-    output_lines(reply, points, out, p, m)
+    let at = total_lines(reply, at, a);
+    let at = group_lines(reply, at, a);
+    output_lines(reply, at, out, p, m)
 }
 
 fn lines_after(reply: &mut [u8], at: usize, a: Answer, out: &[f64], p: usize, m: usize) -> usize
@@ -122,6 +122,6 @@ pub(crate) fn whole_reply(
     let p = at_most(points, 40);
     let m = at_most(measures, 20);
     let e = a.ending;
-    let next = status_line(reply, 0, e);
-    lines_after(reply, next, a, out, p, m)
+    let at = status_line(reply, 0, e);
+    lines_after(reply, at, a, out, p, m)
 }

@@ -14,7 +14,7 @@ returns c =
     let bs = replyOf (a .a) (a .out .now) (a .points) (a .measures) in
     let fits = short (a .a) (a .out .now) (a .points) (a .measures) in
     let n = length-counted bs _ _ _ fits (f .whole-reply .ensures) in
-    (n, room bs _ _ _ _ fits n (w .before .before .if1 .taken) (w .whole-reply2 .ensures))
+    record { needed = n; written = room bs _ _ _ _ fits n (w .before .before .if1 .taken) (w .whole-reply2 .ensures) }
 
 returns-2 : tie.Need-returns-2
 returns-2 c =
@@ -22,7 +22,7 @@ returns-2 c =
     let a = f .before .before .before .before .args in
     let bs = replyOf (a .a) (a .out .now) (a .points) (a .measures) in
     let n = length-counted bs _ _ _ (short (a .a) (a .out .now) (a .points) (a .measures)) (f .whole-reply .ensures) in
-    (n, no-room bs _ _ n (c .if1 .left))
+    record { needed = n; written = no-room bs _ _ n (c .if1 .left) }
 
 pub write-spec : {M : Type 1} → statement M
 write-spec =
