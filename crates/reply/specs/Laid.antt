@@ -1,0 +1,26 @@
+-- Bytes one after another in a lent slice. A store past the end of the slice does nothing, so that the length of a reply is known
+-- from laying it where there is no room.
+use mathlib.Core.Bool.{cond}
+use mathlib.Core.List.{List, [], _∷_, _++_}
+use mathlib.Core.Path.{_≡_, refl}
+use Prim.Native.Nat.{ℕ, _+_}
+use lib.Dec.{ltb}
+use lib.ListN.{set}
+use Rattle.loops.specs.Turns.{fold}
+
+-- how many bytes are laid so far, and what is in the slice
+pub data Laid : Type 0 where
+  laid : ℕ → List ℕ → Laid
+
+-- one byte more; past 8,192 there is none, so that the count fits whatever is laid (no reply is that long, `short`)
+unfoldable pub nextByte : Laid → ℕ → Laid
+nextByte (laid n s) b = cond (ltb n 8192) (laid (n + 1) (set s n b)) (laid n s)
+
+abbrev pub laying : List ℕ → Laid → Laid
+laying bs s = fold nextByte s bs
+
+-- a fold over two lists, one after the other
+pub fold-append : {A S : Type 0} (f : S → A → S) (s : S) (p q : List A) → fold f s (p ++ q) ≡ fold f (fold f s p) q
+unfolding fold
+fold-append f s [] q = refl
+fold-append f s (x ∷ p) q = fold-append f (f s x) p q
