@@ -4,7 +4,7 @@ use mathlib.Core.List.{List, [], _∷_, _++_, append-assoc}
 use mathlib.Core.Path.{_≡_, refl, sym, ap, _∙_}
 use native.Mathlib.Numerals.{add-one}
 use native.Mathlib.Omega.{arith}
-use borrow.Author.Tests.{le-leb, lt-leb}
+use borrow.Author.Tests.{lt-leb}
 use lib.Ieee.{Float}
 use lib.ListN.{length, getD, take, drop, set, length-take, length-map, List·getD-map}
 use lib.Seq.{length-take-le, getD-take, take-suc, take-all, drop-cons, set-at}
@@ -12,7 +12,7 @@ use Rattle.loops.specs.Parts.{set-past}
 use Rattle.plane.specs.declared.Vec2.{Vec2}
 use Rattle.sketch.specs.declared.Point.{Point}
 use Rattle.members.specs.Movable.{nowhere, pointsAt}
-use Rattle.members.specs.Scale.{scaledOf, startOf, start-length, startIn}
+use Rattle.members.specs.Scale.{scaledOf, startOf, start-length, startIn, starts}
 use Rattle.members.proofs.Sized.{taken}
 
 -- two stores past what is written
@@ -68,8 +68,8 @@ module _ (points : List Point) (centre : Vec2) (size : Float) (items : List ℕ)
 
   pub started : (x′ : List Float) → 2 * n ≤ length x → x′ ≡ startOf centre size (pointsAt points (take n items)) ++ drop (2 * n) x
       → x′ ≡ startIn centre size (pointsAt points (take count items)) x
-  unfolding startIn
-  started x′ h q = rw (← taken items count n 40 e m, counted, le-leb (2 * n) (length x) h) q
+  started x′ h q =
+      rw (← taken items count n 40 e m) (q ∙ sym (rw counted at (starts centre size (pointsAt points (take n items)) x (rw counted h))))
 
   pub too-short : length x < 2 * n → x ≡ startIn centre size (pointsAt points (take count items)) x
   unfolding startIn

@@ -1,10 +1,11 @@
 -- equations.rs, `scaled`, `unscale` and the `x0` of `fit`, and lib.rs, `solve`, where the points of a group are put among all.
 -- A point's two coordinates stand next to each other.
-use Prim.Native.Nat.{ℕ, _+_, _*_}
+use Prim.Native.Nat.{ℕ, _+_, _*_, _≤_}
 use mathlib.Core.Bool.{cond}
 use mathlib.Core.List.{List, [], _∷_, _++_}
 use mathlib.Core.Path.{_≡_, refl}
 use native.Mathlib.Omega.{arith}
+use borrow.Author.Tests.{le-leb}
 use lib.Dec.{ltb, leb}
 use lib.Ieee.{Float, nan, eq}
 use lib.ListN.{length, getD, drop, set}
@@ -44,6 +45,11 @@ start-length centre size (p ∷ ps) = omega (arith, start-length centre size ps)
 unfoldable pub startIn : Vec2 → Float → List Point → List Float → List Float
 startIn centre size ps x = cond (leb (2 * length ps) (length x)) (startOf centre size ps ++ drop (2 * length ps) x) x
 
+pub starts : (centre : Vec2) (size : Float) (ps : List Point) (x : List Float) → 2 * length ps ≤ length x
+    → startIn centre size ps x ≡ startOf centre size ps ++ drop (2 * length ps) x
+unfolding startIn
+starts centre size ps x h = rw (le-leb (2 * length ps) (length x) h)
+
 -- the Rust's `move_by`: x is where a coordinate ended and s where it started, in units of size
 unfoldable pub moveBy : Float → Float → Float → Float
 moveBy size x s = cond (eq x s) zero⁺ ((x ⊖ s) ⊗ size)
@@ -52,7 +58,7 @@ moveBy size x s = cond (eq x s) zero⁺ ((x ⊖ s) ⊗ size)
 abbrev pub moved : Float → Vec2 → Vec2 → Vec2 → Vec2
 moved size start s x = record { x = start .x ⊕ moveBy size (x .x) (s .x); y = start .y ⊕ moveBy size (x .y) (s .y) }
 
--- a placed point is its place
+-- a placed point is its place; any other moves from its start, which is where its `scaled` is taken
 abbrev pub backTo : Vec2 → Float → State → Vec2 → Vec2 → Vec2
 backTo centre size Free start x = moved size start (inUnits centre size start) x
 backTo centre size Kept start x = moved size start (inUnits centre size start) x

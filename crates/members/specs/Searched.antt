@@ -1,6 +1,6 @@
 -- What the tables stand for, apart from how they are filled: a search in a list that rises. Rust's `binary_search` finds the one
 -- place where a number stands in such a list, and fails where it does not; so a table that is filled from the list and searching
--- the list with the table's default for a failure are the same (`searched`).
+-- the list with the table's default for a failure are the same (`searched`). Assumes nothing.
 use Prim.Native.Nat.{ℕ, zero, suc, _+_, _-_, _≤_, _<_}
 use mathlib.Core.Bool.{cond}
 use mathlib.Core.List.{List, [], _∷_, List·Memᴰ, List·Memᴰ·head, List·Memᴰ·tail, List·Memᴰ·not-nil, List·Memᴰ·cases-cons}
@@ -109,7 +109,8 @@ module _ (cs : List ℕ) (d v : ℕ) where
   unfolding turns numberAt
   told [] k t e r w = nothing-left k (getD t v d) v
   told (c ∷ l) k t e r w =
-      let here : getD cs k 0 ≡ c = sym (rw (let z : k + 0 ≡ k = omega arith in z) at (getD-drop k cs 0 0)) ∙ ap (λ m. getD m 0 0) e in
+      let same : k ≡ k + 0 = omega arith in
+      let here : getD cs k 0 ≡ c = ap (λ i. getD cs i 0) same ∙ sym (getD-drop k cs 0 0) ∙ ap (λ m. getD m 0 0) e in
       let rest : drop (k + 1) cs ≡ l = sym (drop-drop 1 k cs) ∙ ap (drop 1) e in
       ap (λ x. getD (turns (length l) (k + 1) (numberAt cs) (set t x k)) v d) here
       ∙ told l (k + 1) (set t c k) rest (r .1) (λ x m. rw (length-set t c k) (w x (List·Memᴰ·tail m)))
