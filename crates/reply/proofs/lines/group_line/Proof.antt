@@ -14,7 +14,7 @@ returns c =
     let l = f .before .before .before .before in
     let k = l .before .before .before .before in
     let two = then _ _ _ _ _ (then _ _ _ _ _ (k .word .ensures) (l .put-whole .ensures)) (f .put-whole2 .ensures) in
-    then _ _ _ _ _ (then _ _ _ _ _ (two) (i .put-whole3 .ensures)) (t .put-whole4 .ensures)
+    then _ _ _ _ _ (then _ _ _ _ _ two (i .put-whole3 .ensures)) (t .put-whole4 .ensures)
 
 pub group-line-spec : {M : Type 1} → statement M
 group-line-spec =

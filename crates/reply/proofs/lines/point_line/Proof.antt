@@ -12,7 +12,7 @@ returns c =
     let x = y .before .before .before .before .before in
     let k = x .before .before .before .before .before in
     let first = then _ _ _ _ _ (k .word .ensures) (rw (x .before .get .ensures) at (x .put-float .ensures)) in
-    then _ _ _ _ _ (first) (rw (y .before .get2 .ensures) at (y .put-float2 .ensures))
+    then _ _ _ _ _ first (rw (y .before .get2 .ensures) at (y .put-float2 .ensures))
 
 pub point-line-spec : {M : Type 1} → statement M
 point-line-spec =

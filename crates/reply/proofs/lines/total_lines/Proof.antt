@@ -15,8 +15,8 @@ returns c =
     let g = k2 .before .before .before .before .before in
     let k1 = g .before .before .before .before in
     let groups = then _ _ _ _ _ (k1 .word .ensures) (g .put-whole .ensures) in
-    let freedom = then _ _ _ _ _ (then _ _ _ _ _ (groups) (k2 .word2 .ensures)) (f .put-whole2 .ensures) in
-    then _ _ _ _ _ (then _ _ _ _ _ (freedom) (k3 .word3 .ensures)) (w .put-float .ensures)
+    let freedom = then _ _ _ _ _ (then _ _ _ _ _ groups (k2 .word2 .ensures)) (f .put-whole2 .ensures) in
+    then _ _ _ _ _ (then _ _ _ _ _ freedom (k3 .word3 .ensures)) (w .put-float .ensures)
 
 pub total-lines-spec : {M : Type 1} → statement M
 total-lines-spec =
