@@ -11,7 +11,8 @@ use lib.Ieee.{Float}
 use lib.ListN.{length, drop, drop-of-length-le}
 use Rattle.loops.specs.Turns.{Try, go, stop}
 use Rattle.normal.specs.Normal.{productOf, productIn, diagMaxOf, diagMaxIn}
-use Rattle.rows.specs.Dense.{Laid, laid, jacobianOf}
+use Rattle.rows.specs.Column.{Laid, laid}
+use Rattle.slopes.specs.Dense.{jacobianOf}
 use Rattle.sketch.specs.declared.Active.{Active}
 use Rattle.sketch.specs.declared.Line.{Line}
 use Rattle.rounds.specs.Column.{table-is}

@@ -13,7 +13,7 @@ use lib.Seq.{take-at, length-take-le}
 use mir.Syntax.{w64}
 use mir.Val.{Fits}
 use Rattle.floats.specs.Lists.{copiedOf}
-use Rattle.rows.specs.Dense.{Laid, laid, columnOf}
+use Rattle.rows.specs.Column.{Laid, laid, columnOf}
 use Rattle.sketch.specs.declared.Active.{Active}
 use Rattle.sketch.specs.declared.Line.{Line}
 use Rattle.solver.specs.Sums.{norm2Of}

@@ -11,7 +11,7 @@ use lib.Ieee.Scale.{finite}
 use lib.ListN.{length, drop, drop-of-length-le}
 use Rattle.floats.specs.Lists.{copiedOf}
 use Rattle.loops.specs.Turns.{Try, go, stop, tried}
-use Rattle.rows.specs.Dense.{Laid, laid, columnOf}
+use Rattle.rows.specs.Column.{Laid, laid, columnOf}
 use Rattle.sketch.specs.declared.Active.{Active}
 use Rattle.sketch.specs.declared.Line.{Line}
 use Rattle.solver.specs.Sums.{norm2Of}

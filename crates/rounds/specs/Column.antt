@@ -15,7 +15,8 @@ use Rattle.floats.specs.Ops.{_⊕_, zero⁺}
 use Rattle.loops.specs.Parts.{get-past, set-past}
 use Rattle.loops.specs.Turns.{fold, upTo, turns}
 use Rattle.plane.specs.declared.Vec2.{Vec2}
-use Rattle.rows.specs.Dense.{Laid, laid, nextValue, nextRow, freeOf, addAt, addEntry, clearAt, clearedOf, rowInto, rowsAt, valuesNext, rowsNext, columnOf, jacobianOf, equationAt}
+use Rattle.rows.specs.Column.{Laid, laid, nextValue, rowsAt, valuesNext, columnOf, equationAt}
+use Rattle.slopes.specs.Dense.{nextRow, freeOf, addAt, addEntry, clearAt, clearedOf, rowInto, rowsNext, jacobianOf}
 use Rattle.rows.specs.Entries.{Row}
 use Rattle.rows.specs.Kinds.{
   coincidentOf,

@@ -6,7 +6,8 @@ use lib.Ieee.{Float}
 use lib.ListN.{replicate}
 use Rattle.floats.specs.Ops.{zero⁺}
 use Rattle.loops.specs.Turns.{fold}
-use Rattle.rows.specs.Dense.{equationAt, rowsAt, addEntry}
+use Rattle.rows.specs.Column.{equationAt, rowsAt}
+use Rattle.slopes.specs.Dense.{addEntry}
 use Rattle.rows.specs.Entries.{Row}
 use Rattle.rows.specs.declared.Entry.{Entry}
 use Rattle.sketch.specs.Rows.{rowsOf}

@@ -45,7 +45,7 @@ fn one_round(
     ensures { λ t. ⌜ triedOf (now (x .exit)) (now (r .exit)) t
         ≡ roundOf (problemOf equations lines (now (places .entry)) (now (chosen .entry)) (now (free .entry)) rows) (jacobianAt equations lines (now (places .entry)) (now (chosen .entry)) (now (columns .entry)) nf) (stateOf (now (x .entry)) (now (r .entry)) fit) ⌝ }
 {
-    rows::jacobian(equations, lines, chosen, places, columns, nf, x, j);
+    slopes::jacobian(equations, lines, chosen, places, columns, nf, x, j);
     normal::product(j, a, rows, nf);
     let m = normal::diag_max(a, rows);
     let begun = fit.begun();

@@ -10,7 +10,7 @@ use Rattle.normal.proofs.diag_max.Reads as diag-max-reads
 use Rattle.normal.proofs.product.Reads as product-reads
 use Rattle.rounds.proofs.Fit.begun.Reads as begun-reads
 use Rattle.rounds.proofs.tries.all_tries.Reads as all-tries-reads
-use Rattle.rows.proofs.jacobian.Reads as jacobian-reads
+use Rattle.slopes.proofs.jacobian.Reads as jacobian-reads
 
 -- src/round.rt:48:5
 jacobian-requires : tie.Need-jacobian-requires

@@ -1,0 +1,145 @@
+-- equations.rs, `fit`, `freedom` and `conflicts`, of a group that is set out: what each comes to, and what each call leaves in the
+-- lent areas, for every input.
+use Prim.Native.Nat.{ℕ, _-_, _*_}
+use mathlib.Core.Bool.{Bool, true, false, cond, _||_}
+use mathlib.Core.List.{List, _++_}
+use mathlib.Core.Path.{_≡_}
+use lib.Dec.{ltb}
+use lib.Ieee.{Float}
+use lib.ListN.{length, set, replicate}
+use Rattle.floats.specs.Only.{only-answer}
+use Rattle.floats.specs.Ops.{zero⁺}
+use Rattle.loops.specs.Turns.{fold}
+use Rattle.members.specs.Lists.{numbersOf, withoutOf}
+use Rattle.members.specs.Movable.{indicesOf}
+use Rattle.members.specs.declared.Listed.{Listed}
+use Rattle.nullspace.specs.Promise.{decomposedOf}
+use Rattle.nullspace.specs.Steps.{rankOf}
+use Rattle.rounds.specs.Problem.{rowCount, valuesAt, jacobianAt}
+use Rattle.rounds.specs.Promise.{outcomeOf, zeroed, saying}
+use Rattle.rounds.specs.Solve.{Outcome, converged, failed}
+use Rattle.rounds.specs.declared.Ending.{Ending}
+use Rattle.rounds.specs.declared.Ending.the-variants.{Converged, Failed, TooMany, TooShort}
+use Rattle.rounds.specs.declared.Solved.{Solved}
+use Rattle.sketch.specs.declared.Build.{Build}
+use Rattle.solver.specs.Sums.{maxAbsOf}
+use Rattle.fit.specs.Frames.{startIn}
+use Rattle.fit.specs.declared.Fitted.{Fitted}
+use Rattle.fit.specs.declared.Frame.{Frame}
+use Rattle.fit.specs.declared.Freedom.{Freedom}
+use Rattle.fit.specs.declared.Marked.{Marked}
+
+-- ---- the fit
+
+-- with the equations of these numbers
+abbrev pub outcomeIn : Build → Frame → List ℕ → Outcome
+outcomeIn b f chosen = outcomeOf (b .equations) (b .lines) (f .places) (f .columns) chosen (indicesOf (f .free)) (startIn b f)
+
+-- at the head of 80 places
+abbrev pub padded : ℕ → List Float → List Float
+padded n x = x ++ replicate (80 - n) zero⁺
+
+-- only a fit that converged shows coordinates
+abbrev pub shownOf : Solved → List Float → Fitted
+shownOf s x = record { solved = s; x = shownBy (s .ending) }
+  where
+    shownBy : Ending → List Float
+    shownBy Converged = x
+    shownBy Failed = replicate 80 zero⁺
+    shownBy TooMany = replicate 80 zero⁺
+    shownBy TooShort = replicate 80 zero⁺
+
+abbrev pub fittedBy : ℕ → Outcome → Fitted
+fittedBy n (converged x i t) = record { solved = saying Converged i t; x = padded n x }
+fittedBy n (failed i t) = record { solved = saying Failed i t; x = replicate 80 zero⁺ }
+
+abbrev pub refusal : Fitted
+refusal = record { solved = saying TooShort 0 0; x = replicate 80 zero⁺ }
+
+abbrev pub short : List Float → List Float → List Float → Bool
+short p q r = ltb (length p) 6400 || ltb (length q) 6400 || ltb (length r) 6400
+
+-- how many places of an area a fit takes: its Jacobian, and its product with its copy
+abbrev pub wide : Build → Frame → List ℕ → ℕ
+wide b f chosen = rowCount (b .equations) chosen * length (indicesOf (f .free))
+
+abbrev pub square : Build → List ℕ → ℕ
+square b chosen = rowCount (b .equations) chosen * rowCount (b .equations) chosen
+
+pub record Fits (b : Build) (f : Frame) (chosen : Listed) (p q r p′ q′ r′ : List Float) (t : Fitted) : Type 0 where
+  pub answer : t ≡ cond (short p q r) refusal (fittedBy (length (startIn b f)) (outcomeIn b f (numbersOf chosen)))
+  pub jacobian : p′ ≡ cond (short p q r) p (zeroed (wide b f (numbersOf chosen)) p)
+  pub product : q′ ≡ cond (short p q r) q (zeroed (square b (numbersOf chosen)) q)
+  pub copy : r′ ≡ cond (short p q r) r (zeroed (square b (numbersOf chosen)) r)
+
+-- ---- the largest residual magnitude at x
+
+unfoldable pub worstOf : Build → Frame → List Float → Float
+worstOf b f x = maxAbsOf (valuesAt (b .equations) (b .lines) (f .places) (numbersOf (f .equations)) x)
+
+-- ---- the freedom at x: free coordinates minus rank
+
+unfoldable pub gradientsOf : Build → Frame → List Float → List Float
+gradientsOf b f x = jacobianAt (b .equations) (b .lines) (f .places) (numbersOf (f .equations)) (f .columns) (length (indicesOf (f .free))) x
+
+unfoldable pub freedomOf : Build → Frame → List Float → ℕ
+freedomOf b f x =
+    let n = length (indicesOf (f .free)) in
+    n - rankOf (decomposedOf (rowCount (b .equations) (numbersOf (f .equations))) n (gradientsOf b f x))
+
+abbrev pub overRows : Build → Frame → Bool
+overRows b f = ltb 64 (rowCount (b .equations) (numbersOf (f .equations)))
+
+pub record Frees (b : Build) (f : Frame) (x p q r p′ q′ r′ : List Float) (t : Freedom) : Type 0 where
+  pub answer : t ≡ cond (short p q r) Freedom.TooShort (cond (overRows b f) Freedom.TooMany (Freedom.Of (freedomOf b f x)))
+  pub jacobian : p′ ≡ cond (short p q r) p (zeroed (wide b f (numbersOf (f .equations))) p)
+  pub work : q′ ≡ cond (short p q r) q (cond (overRows b f) q (zeroed (wide b f (numbersOf (f .equations))) q))
+  pub basis : r′ ≡ cond (short p q r) r (zeroed (length (indicesOf (f .free)) * length (indicesOf (f .free))) r)
+
+-- ---- the suspects: `conflicts`
+
+abbrev pub converges : Outcome → Bool
+converges (converged x i t) = true
+converges (failed i t) = false
+
+-- without equation k the rest converges
+unfoldable pub suspect : Build → Frame → ℕ → Bool
+suspect b f k = converges (outcomeIn b f (withoutOf k (numbersOf (f .equations))))
+
+-- equation k is marked, of those that are no suspects none is
+unfoldable pub mark : Build → Frame → List Bool → ℕ → List Bool
+mark b f marks k = set marks k (suspect b f k)
+
+unfoldable pub suspectsOf : Build → Frame → List Bool
+suspectsOf b f = fold (mark b f) (replicate 40 false) (numbersOf (f .equations))
+
+-- each fit without one equation leaves the areas +0.0 where it used them
+abbrev pub withouts : Build → Frame → ℕ → List ℕ
+withouts b f k = withoutOf k (numbersOf (f .equations))
+
+unfoldable pub jacobianLeft : Build → Frame → List Float → ℕ → List Float
+jacobianLeft b f p k = zeroed (wide b f (withouts b f k)) p
+
+unfoldable pub productLeft : Build → Frame → List Float → ℕ → List Float
+productLeft b f q k = zeroed (square b (withouts b f k)) q
+
+pub record Marks (b : Build) (f : Frame) (p q r p′ q′ r′ : List Float) (t : Marked) : Type 0 where
+  pub answer : t ≡ cond (short p q r) (record { short = true; marks = replicate 40 false }) (record { short = false; marks = suspectsOf b f })
+  pub jacobian : p′ ≡ cond (short p q r) p (fold (jacobianLeft b f) p (numbersOf (f .equations)))
+  pub product : q′ ≡ cond (short p q r) q (fold (productLeft b f) q (numbersOf (f .equations)))
+  pub copy : r′ ≡ cond (short p q r) r (fold (productLeft b f) r (numbersOf (f .equations)))
+
+-- ---- no second answer, and no other content of a lent place, meets a promise
+
+module _ {b : Build} {f : Frame} {p q r p₁ q₁ r₁ p₂ q₂ r₂ : List Float} where
+  pub only-fit : {chosen : Listed} {t u : Fitted} → Fits b f chosen p q r p₁ q₁ r₁ t → Fits b f chosen p q r p₂ q₂ r₂ u → (t ≡ u) × (p₁ ≡ p₂) × (q₁ ≡ q₂) × (r₁ ≡ r₂)
+  only-fit m n =
+      (only-answer (m .answer) (n .answer), only-answer (m .jacobian) (n .jacobian), only-answer (m .product) (n .product), only-answer (m .copy) (n .copy))
+
+  pub only-freedom : {x : List Float} {t u : Freedom} → Frees b f x p q r p₁ q₁ r₁ t → Frees b f x p q r p₂ q₂ r₂ u → (t ≡ u) × (p₁ ≡ p₂) × (q₁ ≡ q₂) × (r₁ ≡ r₂)
+  only-freedom m n =
+      (only-answer (m .answer) (n .answer), only-answer (m .jacobian) (n .jacobian), only-answer (m .work) (n .work), only-answer (m .basis) (n .basis))
+
+  pub only-marks : {t u : Marked} → Marks b f p q r p₁ q₁ r₁ t → Marks b f p q r p₂ q₂ r₂ u → (t ≡ u) × (p₁ ≡ p₂) × (q₁ ≡ q₂) × (r₁ ≡ r₂)
+  only-marks m n =
+      (only-answer (m .answer) (n .answer), only-answer (m .jacobian) (n .jacobian), only-answer (m .product) (n .product), only-answer (m .copy) (n .copy))

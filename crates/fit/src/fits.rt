@@ -1,0 +1,78 @@
+// The fit of a frame with some of its equations, and the residuals there.
+ghost use mathlib.Core.Path.{_≡_};
+ghost use Prim.Native.Nat.{min};
+ghost use Rattle.fit.specs.Fits.{Fits, shownOf, worstOf};
+use crate::Fitted;
+use crate::Frame;
+use members::Listed;
+use rounds::Ending;
+use rounds::Solved;
+use sketch::Build;
+
+// Only what has converged is shown.
+fn shown(s: Solved, x: [f64; 80]) -> Fitted
+    ensures { λ r. ⌜ r ≡ shownOf s x ⌝ }
+{
+    let ending = s.ending;
+    match ending {
+        Ending::Converged => Fitted { solved: s, x },
+        Ending::Failed => Fitted { solved: s, x: [0.0; 80] },
+        Ending::TooMany => Fitted { solved: s, x: [0.0; 80] },
+        Ending::TooShort => Fitted { solved: s, x: [0.0; 80] },
+    }
+}
+
+fn smaller(a: usize, b: usize) -> usize
+    ensures { λ r. ⌜ r ≡ min a b ⌝ }
+{
+    if a < b { a } else { b }
+}
+
+// The fit of the frame with the chosen equations.
+pub fn fit(b: Build, f: Frame, chosen: Listed, p: &mut [f64], q: &mut [f64], r: &mut [f64]) -> Fitted
+    ensures { λ t. ⌜ Fits b f chosen (now (p .entry)) (now (q .entry)) (now (r .entry)) (now (p .exit)) (now (q .exit)) (now (r .exit)) t ⌝ }
+{
+    let points = b.points;
+    let centre = b.centre;
+    let listed = f.points;
+    let free = f.free;
+    let places = f.places;
+    let columns = f.columns;
+    let mut x = [0.0; 80];
+    members::start(points, centre, b.size, listed, &mut x);
+    let n = 2 * smaller(listed.count, 40);
+    let items = chosen.items;
+    let k = smaller(chosen.count, 40);
+    let coordinates = free.items;
+    let nf = smaller(free.count, 80);
+    let equations = b.equations;
+    let lines = b.lines;
+    let s = rounds::solve(
+        equations,
+        lines,
+        &items[..k],
+        &places,
+        &columns,
+        &coordinates[..nf],
+        &mut x[..n],
+        p,
+        q,
+        r,
+    );
+    shown(s, x)
+}
+
+// The largest residual magnitude at x, infinite where one is not finite.
+pub fn worst(b: Build, f: Frame, x: &[f64]) -> f64
+    ensures { λ m. ⌜ m ≡ worstOf b f (now (x .entry)) ⌝ }
+{
+    let listed = f.equations;
+    let items = listed.items;
+    let k = smaller(listed.count, 40);
+    let places = f.places;
+    let equations = b.equations;
+    let lines = b.lines;
+    let mut r = [0.0; 80];
+    let n = rows::residuals(equations, lines, &items[..k], &places, x, &mut r);
+    solver::max_abs(&r[..n])
+}

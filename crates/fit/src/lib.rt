@@ -1,0 +1,45 @@
+// The fit of a group (equations.rs, `fit`, `freedom`, `conflicts`): its points and equations set out once, fitted, its freedom
+// at the fit, and the suspects where it fails. A work area that is lent has room for 6,400 numbers.
+mod fits;
+mod frames;
+mod marks;
+mod ranks;
+
+pub use fits::fit;
+pub use fits::worst;
+pub use frames::frame;
+pub use marks::suspects;
+use members::Coordinates;
+use members::Listed;
+pub use ranks::freedom;
+use rounds::Solved;
+
+// A group set out for its fit: its points and equations, its free coordinates, and the tables of places and columns.
+pub struct Frame {
+    pub points: Listed,
+    pub equations: Listed,
+    pub free: Coordinates,
+    pub places: [u8; 40],
+    pub columns: [u8; 80],
+}
+
+// How a fit ended, and its coordinates at the head of x: zeros unless it converged.
+pub struct Fitted {
+    pub solved: Solved,
+    pub x: [f64; 80],
+}
+
+// What the freedom of a group comes to.
+pub enum Freedom {
+    Of(usize),
+    // 3: more than 64 rows.
+    TooMany,
+    // 9: a work area shorter than 6,400.
+    TooShort,
+}
+
+// Whether each equation is a suspect; `short` is 9, a work area shorter than 6,400.
+pub struct Marked {
+    pub short: bool,
+    pub marks: [bool; 40],
+}
