@@ -26,7 +26,7 @@ use Rattle.solver.specs.Sums.{maxAbsOf}
 use Rattle.fit.specs.Frames.{startIn}
 use Rattle.fit.specs.declared.Fitted.{Fitted}
 use Rattle.fit.specs.declared.Frame.{Frame}
-use Rattle.fit.specs.declared.Freedom.{Freedom}
+use Rattle.fit.specs.declared.Degrees.{Degrees}
 use Rattle.fit.specs.declared.Marked.{Marked}
 
 -- ---- the fit
@@ -90,8 +90,8 @@ freedomOf b f x =
 abbrev pub overRows : Build → Frame → Bool
 overRows b f = ltb 64 (rowCount (b .equations) (numbersOf (f .equations)))
 
-pub record Frees (b : Build) (f : Frame) (x p q r p′ q′ r′ : List Float) (t : Freedom) : Type 0 where
-  pub answer : t ≡ cond (short p q r) Freedom.TooShort (cond (overRows b f) Freedom.TooMany (Freedom.Of (freedomOf b f x)))
+pub record Frees (b : Build) (f : Frame) (x p q r p′ q′ r′ : List Float) (t : Degrees) : Type 0 where
+  pub answer : t ≡ cond (short p q r) Degrees.TooShort (cond (overRows b f) Degrees.TooMany (Degrees.Of (freedomOf b f x)))
   pub jacobian : p′ ≡ cond (short p q r) p (zeroed (wide b f (numbersOf (f .equations))) p)
   pub work : q′ ≡ cond (short p q r) q (cond (overRows b f) q (zeroed (wide b f (numbersOf (f .equations))) q))
   pub basis : r′ ≡ cond (short p q r) r (zeroed (length (indicesOf (f .free)) * length (indicesOf (f .free))) r)
@@ -136,7 +136,7 @@ module _ {b : Build} {f : Frame} {p q r p₁ q₁ r₁ p₂ q₂ r₂ : List Flo
   only-fit m n =
       (only-answer (m .answer) (n .answer), only-answer (m .jacobian) (n .jacobian), only-answer (m .product) (n .product), only-answer (m .copy) (n .copy))
 
-  pub only-freedom : {x : List Float} {t u : Freedom} → Frees b f x p q r p₁ q₁ r₁ t → Frees b f x p q r p₂ q₂ r₂ u → (t ≡ u) × (p₁ ≡ p₂) × (q₁ ≡ q₂) × (r₁ ≡ r₂)
+  pub only-freedom : {x : List Float} {t u : Degrees} → Frees b f x p q r p₁ q₁ r₁ t → Frees b f x p q r p₂ q₂ r₂ u → (t ≡ u) × (p₁ ≡ p₂) × (q₁ ≡ q₂) × (r₁ ≡ r₂)
   only-freedom m n =
       (only-answer (m .answer) (n .answer), only-answer (m .jacobian) (n .jacobian), only-answer (m .work) (n .work), only-answer (m .basis) (n .basis))
 

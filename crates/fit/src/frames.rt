@@ -5,7 +5,7 @@ use crate::Frame;
 use groups::Grouping;
 use sketch::Point;
 
-pub fn frame(points: [Point; 40], gr: Grouping, g: usize) -> Frame
+pub fn set_out(points: [Point; 40], gr: Grouping, g: usize) -> Frame
     ensures { λ f. ⌜ f ≡ frameOf points gr g ⌝ }
 {
     let listed = members::points_of(gr, g);

@@ -7,7 +7,7 @@ mod ranks;
 
 pub use fits::fit;
 pub use fits::worst;
-pub use frames::frame;
+pub use frames::set_out;
 pub use marks::suspects;
 use members::Coordinates;
 use members::Listed;
@@ -30,7 +30,7 @@ pub struct Fitted {
 }
 
 // What the freedom of a group comes to.
-pub enum Freedom {
+pub enum Degrees {
     Of(usize),
     // 3: more than 64 rows.
     TooMany,
