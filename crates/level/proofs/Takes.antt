@@ -65,16 +65,16 @@ module _ (fixed : List Bool) (few : length fixed ≤ 40) (axis n : ℕ) (ps : Li
     moved r f = record {
       forest = find-has fixed few (s .parents) ρ (d .forest) i;
       sized = length-set (s .answer) (place axis i) _ ∙ d .sized;
-      taken = λ p l e k. take p l e k (ℕ-discrete p i);
+      taken = λ p l e k. gets p l e k (ℕ-discrete p i);
       kept = λ p q. untouched p (λ e. clash p q e) ∙ d .kept p (wider p q);
       other = λ j q. getD-set-other (s .answer) (place axis i) j _ nan (q i h) ∙ d .other j q;
     }
       where
-        take : (p : ℕ) → p < i + 1 → fixedAt fixed p ≡ false → place axis p < length before → Dec (p ≡ i)
+        gets : (p : ℕ) → p < i + 1 → fixedAt fixed p ≡ false → place axis p < length before → Dec (p ≡ i)
             → getD written (place axis p) nan ≡ getD before (place axis (ρ p)) nan
-        take p l e k (yes q) =
+        gets p l e k (yes q) =
             rw q (getD-set-same (s .answer) (place axis i) _ nan (rw (d .sized) (rw q at k)) ∙ root-value)
-        take p l e k (no q) = untouched p q ∙ d .taken p (omega arith) e k
+        gets p l e k (no q) = untouched p q ∙ d .taken p (omega arith) e k
 
         clash : (p : ℕ) → (i + 1 ≤ p) ⊎ Stays p → p ≡ i → ⊥
         clash p (inl l) e = omega arith
@@ -89,16 +89,16 @@ module _ (fixed : List Bool) (few : length fixed ≤ 40) (axis n : ℕ) (ps : Li
     still t = record {
       forest = find-has fixed few (s .parents) ρ (d .forest) i;
       sized = d .sized;
-      taken = λ p l e k. take p l e k (ℕ-discrete p i) t;
+      taken = λ p l e k. gets p l e k (ℕ-discrete p i) t;
       kept = λ p q. d .kept p (wider p q);
       other = d .other;
     }
       where
-        take : (p : ℕ) → p < i + 1 → fixedAt fixed p ≡ false → place axis p < length before → Dec (p ≡ i) → Stays i
+        gets : (p : ℕ) → p < i + 1 → fixedAt fixed p ≡ false → place axis p < length before → Dec (p ≡ i) → Stays i
             → getD (s .answer) (place axis p) nan ≡ getD before (place axis (ρ p)) nan
-        take p l e k (yes q) (inl f) = absurd (subst T (sym f ∙ ap (fixedAt fixed) (sym q) ∙ e) tt)
-        take p l e k (yes q) (inr r) = d .kept p (inl (omega arith)) ∙ ap (λ x. getD before (place axis x) nan) (q ∙ sym r ∙ ap ρ (sym q))
-        take p l e k (no q) u = d .taken p (omega arith) e k
+        gets p l e k (yes q) (inl f) = absurd (subst T (sym f ∙ ap (fixedAt fixed) (sym q) ∙ e) tt)
+        gets p l e k (yes q) (inr r) = d .kept p (inl (omega arith)) ∙ ap (λ x. getD before (place axis x) nan) (q ∙ sym r ∙ ap ρ (sym q))
+        gets p l e k (no q) u = d .taken p (omega arith) e k
 
         wider : (p : ℕ) → (i + 1 ≤ p) ⊎ Stays p → (i ≤ p) ⊎ Stays p
         wider p (inl l) = inl (omega arith)

@@ -113,18 +113,18 @@ module _ (fixed : List Bool) (few : length fixed ≤ 40) (es : List Active) (n :
 
   both-axes : Levelled fixed es n points two
   both-axes = record {
-    taken = λ axis p h l f k. (ρ axis p, run-root fixed few axis es (small axis) p, take axis p h l f k);
+    taken = λ axis p h l f k. (ρ axis p, run-root fixed few axis es (small axis) p, gets axis p h l f k);
     kept = keep;
     past = λ i h. other 1 one i (λ p l e. omega arith) ∙ other 0 points i (λ p l e. omega arith);
     sized = sized 1 one ∙ sized 0 points;
   }
     where
-      take : (axis p : ℕ) → axis < 2 → p < n → fixedAt fixed p ≡ false → place axis p < length points
+      gets : (axis p : ℕ) → axis < 2 → p < n → fixedAt fixed p ≡ false → place axis p < length points
           → getD two (place axis p) nan ≡ getD points (place axis (ρ axis p)) nan
-      take zero p h l f k = other 1 one (place 0 p) (λ q i e. sides p q e) ∙ taken 0 points p l f k
-      take (suc zero) p h l f k =
+      gets zero p h l f k = other 1 one (place 0 p) (λ q i e. sides p q e) ∙ taken 0 points p l f k
+      gets (suc zero) p h l f k =
           taken 1 one p l f (rw (sized 0 points) k) ∙ other 0 points (place 1 (ρ 1 p)) (λ q i e. sides q (ρ 1 p) (sym e))
-      take (suc (suc axis)) p h l f k = absurd (omega arith)
+      gets (suc (suc axis)) p h l f k = absurd (omega arith)
 
       keep : (axis p : ℕ) → axis < 2 → fixedAt fixed p ≡ true → getD two (place axis p) nan ≡ getD points (place axis p) nan
       keep zero p h f = other 1 one (place 0 p) (λ q i e. sides p q e) ∙ kept 0 points p f

@@ -33,7 +33,7 @@ unfoldable pub halved : Gives ℕ → Gives ℕ
 halved s = let ps = skipped (s .parents) (s .answer) in record { parents = ps; answer = up ps (s .answer) }
 
 -- `find`: 80 turns are enough on whatever parents the sweeps come by (`walk-ends`, proofs/Roots.antt), since each goes to a point
--- that may win over the last
+-- that would win over the one before
 unfoldable pub findOf : List ℕ → ℕ → Gives ℕ
 findOf ps x = whileTo 80 0 below (λ i. halved) (record { parents = ps; answer = x })
 

@@ -4,7 +4,7 @@ ghost use lib.ListN.{set};
 ghost use Rattle.level.specs.Parents.{up, Leaves, halved, findOf, aWins, joinTo};
 use crate::table::fixed_at;
 
-// More turns than a walk ever takes (`walk-ends`, proofs/Roots.antt), so that a call ends whatever it is lent.
+// Enough turns for every walk (`walk-ends`, proofs/Roots.antt): the bound only lets a call end whatever it is lent.
 const TURNS: usize = 80;
 
 fn up(p: &[usize], x: usize) -> usize

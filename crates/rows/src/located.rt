@@ -1,7 +1,6 @@
 // Where points and lines are at given coordinates.
 ghost use mathlib.Core.Path.{_≡_};
 ghost use Prim.Native.Nat.{_<_};
-ghost use lib.ListN.{getD};
 ghost use Rattle.plane.specs.Vectors.{subOf, unitFromOf};
 ghost use Rattle.sketch.specs.Involved.{lineAt};
 ghost use Rattle.rows.specs.Kinds.{middleOf};
@@ -29,12 +28,14 @@ pub fn line_at(lines: [Line; 40], l: LineNo) -> Line
     }
 }
 
+// A byte of a table as a number.
 pub fn wide(k: u8) -> usize
     ensures { λ r. ⌜ (r ≡ k) × (r < 256) ⌝ }
 {
     k as usize
 }
 
+// A point's place among the group's points.
 pub fn local(places: &[u8], p: PointNo) -> usize
     ensures { λ r. ⌜ (r ≡ localOf (now (places .entry)) p) × (r < 256) ⌝ }
 {

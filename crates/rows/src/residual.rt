@@ -2,7 +2,7 @@
 ghost use mathlib.Core.Path.{_≡_};
 ghost use mathlib.Core.List.{[], _∷_};
 ghost use Rattle.rows.specs.Entries.{valuesOf, emit};
-ghost use Rattle.rows.specs.Kinds.{radiusOf, firstSign, secondSign, coincidentOf, levelOf, parallelOf, perpendicularOf, collinearOf, equalOf, distanceOf, axisDistanceOf, lengthOf, pointLineOf, arcEndsOf, radiusKindOf, lineCircleOf, circleCircleOf, lineArcAtOf, arcArcAtOf, midpointOf, arcMidpointOf, symmetricOf, equalRadiusOf, rowsOfEquation};
+ghost use Rattle.rows.specs.Kinds.{radiusOf, coincidentOf, levelOf, parallelOf, perpendicularOf, collinearOf, equalOf, distanceOf, axisDistanceOf, lengthOf, pointLineOf, arcEndsOf, radiusKindOf, lineCircleOf, circleCircleOf, lineArcAtOf, arcArcAtOf, midpointOf, arcMidpointOf, symmetricOf, equalRadiusOf, rowsOfEquation};
 ghost use Rattle.rows.specs.Located.{atOf};
 use crate::answer::Values;
 use crate::located::apart;

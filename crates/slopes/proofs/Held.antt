@@ -18,8 +18,8 @@ use Rattle.rows.specs.declared.Entry.{Entry}
 use Rattle.rows.proofs.Bounded.{Bounded}
 use Rattle.rows.proofs.Held.{held}
 use Rattle.slopes.specs.Dense.{nextRow, rowInto, rowsNext}
-use Rattle.slopes.specs.Gradients.{gradientOf, gradientsOf, entriesIn}
-use Rattle.slopes.specs.declared.Gradients.{Gradients}
+use Rattle.partials.specs.Gradients.{gradientOf, gradientsOf, entriesIn}
+use Rattle.partials.specs.declared.answer.Gradients.{Gradients}
 
 -- a row's place in a table of at most 80 rows and 80 columns
 pub place : (a n : ℕ) → a ≤ 79 → n ≤ 80 → a * n ≤ 6400

@@ -8,11 +8,9 @@ use lib.Ieee.{Float, nan}
 use lib.ListN.{length, getD, set}
 use Rattle.floats.specs.Ops.{_⊕_, zero⁺}
 use Rattle.loops.specs.Turns.{fold, upTo}
-use Rattle.plane.specs.declared.Vec2.{Vec2}
 use Rattle.sketch.specs.declared.Active.{Active}
 use Rattle.sketch.specs.declared.FreeNo.{FreeNo}
 use Rattle.sketch.specs.declared.Line.{Line}
-use Rattle.sketch.specs.declared.PointNo.{PointNo}
 use Rattle.rows.specs.Column.{Laid, laid, rowsAt}
 use Rattle.rows.specs.Entries.{Row}
 use Rattle.rows.specs.Located.{localOf}

@@ -7,7 +7,7 @@ ghost use Rattle.rows.specs.Kinds.{rowsOfEquation};
 ghost use Rattle.rows.specs.Located.{atOf};
 ghost use Rattle.slopes.specs.Dense.{nextRow, jacobianOf};
 use crate::dense::row_into;
-use crate::slope::gradients;
+use partials::gradients;
 use sketch::Active;
 use sketch::Equation;
 use sketch::Line;

@@ -1,0 +1,2 @@
+-- Laws: the head of a list while measures go there.
+pub mod Head

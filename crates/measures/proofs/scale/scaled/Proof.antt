@@ -1,0 +1,42 @@
+-- Assumes nothing.
+use Prim.Native.Nat.{_≤_, _-_}
+use mathlib.Core.Path.{_≡_, refl}
+use borrow.Author.Needs.{needs}
+use lib.ListN.{length}
+use Rattle.loops.specs.Turns.{upTo, upTo-next, upTo-done}
+use Rattle.measures.specs.Scale.{scaleAt, scaledOf}
+use Rattle.measures.proofs.scale.scaled.Statement.{statement}
+use Rattle.measures.proofs.scale.scaled.Tie as tie
+
+abbrev Inv-loop : tie.InvT-loop
+Inv-loop centre size points n x₀ p₀ x p =
+    (p ≤ n) × (length x ≡ 80) × (upTo n p (scaleAt centre size points) x ≡ scaledOf centre size n points)
+
+abbrev μ-loop : tie.MeasureT-loop
+μ-loop centre size points n x₀ p₀ x p = n - p
+
+loop-holds : tie.Need-loop-holds Inv-loop μ-loop
+unfolding scaledOf
+loop-holds c = (search needs, refl, refl)
+
+loop-again : tie.Need-loop-again Inv-loop μ-loop
+loop-again c =
+    let l = c .before .before .before .before .loop in
+    (search needs, search needs, upTo-next _ _ (l .p) (l .x) _ _ (search needs) (c .before .scale .ensures) (l .inv .2))
+
+returns : tie.Need-returns Inv-loop μ-loop
+returns c = let l = c .before .loop in upTo-done _ _ (l .p) (l .x) _ (search needs) (l .inv .2)
+
+pub scaled-spec : {M : Type 1} → statement M
+scaled-spec =
+    tie.close
+    (tie.spec
+    Inv-loop
+    μ-loop
+    loop-holds
+    (λ c. search needs)
+    (λ c κs. search needs)
+    (λ c. search needs)
+    (λ c. search needs)
+    loop-again
+    returns)

@@ -1,0 +1,12 @@
+-- What the calls promise, from the last to the first. Assumes nothing.
+use borrow.Author.Needs.{needs}
+use Rattle.partials.specs.Gradients.{gradientOf}
+use Rattle.partials.proofs.shapes.four_of.Statement.{statement}
+use Rattle.partials.proofs.shapes.four_of.Tie as tie
+
+returns : tie.Need-returns
+unfolding gradientOf
+returns c = rw (c .nothing .ensures)
+
+pub four-of-spec : {M : Type 1} → statement M
+four-of-spec = tie.close (tie.spec (λ c κs. search needs) returns)

@@ -1,0 +1,3 @@
+
+// Appended by tests/level.
+pub use equations::levels::{Item, Rig};
