@@ -12,27 +12,11 @@ use Rattle.spelling.specs.Places.{byteAt, furtherOf, spoiltOf}
 use Rattle.spelling.specs.declared.BitsRead.{BitsRead}
 use Rattle.spelling.specs.declared.Cursor.{Cursor}
 use Rattle.spelling.specs.Printed.{hexDigit, hexadecimal, floatText}
-use Rattle.spelling.proofs.Forms.{Here, Reads, never, byte-here, further-forward, further-backward, further-keeps, anything}
+use Rattle.spelling.proofs.Forms.{Reads, anything}
+use Rattle.spelling.proofs.Steps.{Here, never, byte-here, further-forward, further-backward, further-keeps}
 use Rattle.spelling.proofs.WholeForm.{times}
 
-hex-of : (d : ℕ) → d < 16 → hexOf (hexDigit d) ≡ d
-unfolding hexOf hexDigit
-hex-of d h = go (ltb d 10) refl
-  where
-    go : (q : Bool) → ltb d 10 ≡ q → hexOf (cond q (48 + d) (87 + d)) ≡ d
-    go true e =
-        let l : d < 10 = ltb-true d 10 e in
-        let a : 48 ≤ 48 + d = omega arith in
-        let b : 48 + d ≤ 57 = omega arith in
-        rw (le-ltb (48 + d) 48 a, le-leb (48 + d) 57 b) (omega arith)
-    go false e =
-        let l : 10 ≤ d = ltb-false d 10 e in
-        let a : 48 ≤ 87 + d = omega arith in
-        let b : 57 < 87 + d = omega arith in
-        let x : 97 ≤ 87 + d = omega arith in
-        let y : 87 + d ≤ 102 = omega arith in
-        rw (le-ltb (87 + d) 48 a, lt-leb (87 + d) 57 b, le-ltb (87 + d) 97 x, le-leb (87 + d) 102 y) (omega arith)
-
+-- a byte that is a digit is the one that is printed for it
 hex-is : (b : ℕ) → hexOf b < 16 → b ≡ hexDigit (hexOf b)
 unfolding hexOf hexDigit
 hex-is b = go (ltb b 48) (leb b 57) (ltb b 97) (leb b 102) refl refl refl refl
@@ -51,6 +35,24 @@ hex-is b = go (ltb b 48) (leb b 57) (ltb b 97) (leb b 102) refl refl refl refl
         let l : 10 ≤ b - 97 + 10 = omega arith in
         rw (le-ltb (b - 97 + 10) 10 l) (omega arith)
     go false false false false e f g k h = absurd (omega arith)
+
+hex-of : (d : ℕ) → d < 16 → hexOf (hexDigit d) ≡ d
+unfolding hexOf hexDigit
+hex-of d h = go (ltb d 10) refl
+  where
+    go : (q : Bool) → ltb d 10 ≡ q → hexOf (cond q (48 + d) (87 + d)) ≡ d
+    go true e =
+        let l : d < 10 = ltb-true d 10 e in
+        let a : 48 ≤ 48 + d = omega arith in
+        let b : 48 + d ≤ 57 = omega arith in
+        rw (le-ltb (48 + d) 48 a, le-leb (48 + d) 57 b) (omega arith)
+    go false e =
+        let l : 10 ≤ d = ltb-false d 10 e in
+        let a : 48 ≤ 87 + d = omega arith in
+        let b : 57 < 87 + d = omega arith in
+        let x : 97 ≤ 87 + d = omega arith in
+        let y : 87 + d ≤ 102 = omega arith in
+        rw (le-ltb (87 + d) 48 a, lt-leb (87 + d) 57 b, le-ltb (87 + d) 97 x, le-leb (87 + d) 102 y) (omega arith)
 
 module _ (s : List ℕ) where
   next-is : (f : BitsRead) (d : ℕ) → hexOf (byteAt s (f .next)) ≡ d → d < 16 → f .bits < 0x1000_0000_0000_0000

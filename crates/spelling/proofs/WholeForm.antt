@@ -13,7 +13,8 @@ use Rattle.spelling.specs.Wholes.{digitOf, firstOf, moreOf, wholeAt}
 use Rattle.spelling.specs.declared.Cursor.{Cursor}
 use Rattle.spelling.specs.declared.WholeRead.{WholeRead}
 use Rattle.spelling.specs.Printed.{decimal, wholeText}
-use Rattle.spelling.proofs.Forms.{Here, Reads, never, byte-here, further-forward, further-backward, further-keeps, parted}
+use Rattle.spelling.proofs.Forms.{Reads, parted}
+use Rattle.spelling.proofs.Steps.{Here, never, byte-here, further-forward, further-backward, further-keeps}
 
 -- the same step so many times
 unfoldable pub times : {A : Type 0} → ℕ → (A → A) → A → A
@@ -73,15 +74,7 @@ module _ (s : List ℕ) where
       go d true e k = ltb-true d 10 e
       go d false e k = absurd (never _ refl k)
 
-  more-is : (n : WholeRead) (d : ℕ) → digitOf (byteAt s (n .next)) ≡ d → d < 10 → 1 ≤ n .value → n .value ≤ 9999
-      → moreOf s n ≡ record { value = 10 * n .value + d; next = furtherOf s (n .next) }
-  unfolding moreOf
-  more-is n d e h p q = rw (e, lt-ltb d 10 h, le-leb 1 (n .value) p, le-leb (n .value) 9999 q)
-
-  more-not : (n : WholeRead) → digitOf (byteAt s (n .next)) ≡ 10 → moreOf s n ≡ n
-  unfolding moreOf
-  more-not n e = rw e
-
+  -- a digit goes on only from a number of at least 1
   more-found : (n : WholeRead) → (moreOf s n ≡ n) ⊎ ((digitOf (byteAt s (n .next)) < 10) × (1 ≤ n .value) × (n .value ≤ 9999))
   unfolding moreOf
   more-found n = go (digitOf (byteAt s (n .next))) (ltb (digitOf (byteAt s (n .next))) 10) (leb 1 (n .value)) (leb (n .value) 9999) refl refl refl
@@ -92,6 +85,15 @@ module _ (s : List ℕ) where
       go d true true false p q r = inl refl
       go d true false e p q r = inl refl
       go d false b e p q r = inl refl
+
+  more-is : (n : WholeRead) (d : ℕ) → digitOf (byteAt s (n .next)) ≡ d → d < 10 → 1 ≤ n .value → n .value ≤ 9999
+      → moreOf s n ≡ record { value = 10 * n .value + d; next = furtherOf s (n .next) }
+  unfolding moreOf
+  more-is n d e h p q = rw (e, lt-ltb d 10 h, le-leb 1 (n .value) p, le-leb (n .value) 9999 q)
+
+  more-not : (n : WholeRead) → digitOf (byteAt s (n .next)) ≡ 10 → moreOf s n ≡ n
+  unfolding moreOf
+  more-not n e = rw e
 
   -- the number so far
   soFar : ℕ → Cursor → WholeRead

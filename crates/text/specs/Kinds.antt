@@ -4,6 +4,7 @@ use mathlib.Core.Bool.{cond}
 use mathlib.Core.List.{List, [], _∷_}
 use Prim.Native.Nat.{ℕ}
 use Rattle.loops.specs.Turns.{fold}
+use Rattle.spelling.specs.Letters.{ascii}
 use Rattle.spelling.specs.Places.{eatOf}
 use Rattle.spelling.specs.declared.Cursor.{Cursor}
 use Rattle.text.specs.declared.Kind.{Kind}
@@ -14,27 +15,27 @@ abbrev pub wordAt : List ℕ → Cursor → List ℕ → Cursor
 wordAt s c w = fold (eatOf s) c w
 
 abbrev pub nameOf : Kind → List ℕ
-nameOf Kind.Coincident = 99 ∷ 111 ∷ 105 ∷ 110 ∷ 99 ∷ 105 ∷ 100 ∷ 101 ∷ 110 ∷ 116 ∷ []
-nameOf Kind.Level = 108 ∷ 101 ∷ 118 ∷ 101 ∷ 108 ∷ []
-nameOf Kind.Parallel = 112 ∷ 97 ∷ 114 ∷ 97 ∷ 108 ∷ 108 ∷ 101 ∷ 108 ∷ []
-nameOf Kind.Perpendicular = 112 ∷ 101 ∷ 114 ∷ 112 ∷ 101 ∷ 110 ∷ 100 ∷ 105 ∷ 99 ∷ 117 ∷ 108 ∷ 97 ∷ 114 ∷ []
-nameOf Kind.Collinear = 99 ∷ 111 ∷ 108 ∷ 108 ∷ 105 ∷ 110 ∷ 101 ∷ 97 ∷ 114 ∷ []
-nameOf Kind.EqualRadius = 101 ∷ 113 ∷ 117 ∷ 97 ∷ 108 ∷ 114 ∷ 97 ∷ 100 ∷ 105 ∷ 117 ∷ 115 ∷ []
-nameOf Kind.Equal = 101 ∷ 113 ∷ 117 ∷ 97 ∷ 108 ∷ []
-nameOf Kind.Held = 104 ∷ 101 ∷ 108 ∷ 100 ∷ []
-nameOf Kind.Distance = 100 ∷ 105 ∷ 115 ∷ 116 ∷ 97 ∷ 110 ∷ 99 ∷ 101 ∷ []
-nameOf Kind.AxisDistance = 97 ∷ 120 ∷ 105 ∷ 115 ∷ 100 ∷ 105 ∷ 115 ∷ 116 ∷ 97 ∷ 110 ∷ 99 ∷ 101 ∷ []
-nameOf Kind.Length = 108 ∷ 101 ∷ 110 ∷ 103 ∷ 116 ∷ 104 ∷ []
-nameOf Kind.PointLine = 112 ∷ 111 ∷ 105 ∷ 110 ∷ 116 ∷ 108 ∷ 105 ∷ 110 ∷ 101 ∷ []
-nameOf Kind.ArcEnds = 97 ∷ 114 ∷ 99 ∷ 101 ∷ 110 ∷ 100 ∷ 115 ∷ []
-nameOf Kind.Radius = 114 ∷ 97 ∷ 100 ∷ 105 ∷ 117 ∷ 115 ∷ []
-nameOf Kind.LineCircle = 108 ∷ 105 ∷ 110 ∷ 101 ∷ 99 ∷ 105 ∷ 114 ∷ 99 ∷ 108 ∷ 101 ∷ []
-nameOf Kind.CircleCircle = 99 ∷ 105 ∷ 114 ∷ 99 ∷ 108 ∷ 101 ∷ 99 ∷ 105 ∷ 114 ∷ 99 ∷ 108 ∷ 101 ∷ []
-nameOf Kind.LineArcAt = 108 ∷ 105 ∷ 110 ∷ 101 ∷ 97 ∷ 114 ∷ 99 ∷ 97 ∷ 116 ∷ []
-nameOf Kind.ArcArcAt = 97 ∷ 114 ∷ 99 ∷ 97 ∷ 114 ∷ 99 ∷ 97 ∷ 116 ∷ []
-nameOf Kind.Midpoint = 109 ∷ 105 ∷ 100 ∷ 112 ∷ 111 ∷ 105 ∷ 110 ∷ 116 ∷ []
-nameOf Kind.ArcMidpoint = 97 ∷ 114 ∷ 99 ∷ 109 ∷ 105 ∷ 100 ∷ 112 ∷ 111 ∷ 105 ∷ 110 ∷ 116 ∷ []
-nameOf Kind.Symmetric = 115 ∷ 121 ∷ 109 ∷ 109 ∷ 101 ∷ 116 ∷ 114 ∷ 105 ∷ 99 ∷ []
+nameOf Kind.Coincident = ascii "coincident"
+nameOf Kind.Level = ascii "level"
+nameOf Kind.Parallel = ascii "parallel"
+nameOf Kind.Perpendicular = ascii "perpendicular"
+nameOf Kind.Collinear = ascii "collinear"
+nameOf Kind.EqualRadius = ascii "equalradius"
+nameOf Kind.Equal = ascii "equal"
+nameOf Kind.Held = ascii "held"
+nameOf Kind.Distance = ascii "distance"
+nameOf Kind.AxisDistance = ascii "axisdistance"
+nameOf Kind.Length = ascii "length"
+nameOf Kind.PointLine = ascii "pointline"
+nameOf Kind.ArcEnds = ascii "arcends"
+nameOf Kind.Radius = ascii "radius"
+nameOf Kind.LineCircle = ascii "linecircle"
+nameOf Kind.CircleCircle = ascii "circlecircle"
+nameOf Kind.LineArcAt = ascii "linearcat"
+nameOf Kind.ArcArcAt = ascii "arcarcat"
+nameOf Kind.Midpoint = ascii "midpoint"
+nameOf Kind.ArcMidpoint = ascii "arcmidpoint"
+nameOf Kind.Symmetric = ascii "symmetric"
 
 -- what was found already, or else the kind with the name w
 unfoldable pub orNamed : List ℕ → Cursor → KindRead → List ℕ → Kind → KindRead
