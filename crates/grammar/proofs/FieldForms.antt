@@ -4,6 +4,9 @@ use mathlib.Core.Bool.{Bool, true, false, cond}
 use mathlib.Core.List.{List, [], _∷_, _++_}
 use mathlib.Core.Path.{_≡_, refl, sym, ap, ap₂, _∙_}
 use Rattle.loops.specs.Turns.{fold}
+use Rattle.phrases.specs.Fields.{numberAt, pointNo, lineNo, valueAt, axisAt, sideAt, radAt, contactAt}
+use Rattle.phrases.specs.declared.ContactRead.{ContactRead}
+use Rattle.sketch.specs.declared.Contact.{Contact}
 use Rattle.spelling.proofs.FloatForm.{float-reads}
 use Rattle.spelling.proofs.Forms.{Reads, parted, anything, before-more, word-reads, then-reads, and-reads, as-reads, pick, pickText, pick-reads, after-word}
 use Rattle.spelling.proofs.WholeForm.{whole-reads}
@@ -12,9 +15,6 @@ use Rattle.spelling.specs.Letters.{ascii}
 use Rattle.spelling.specs.Places.{eatOf}
 use Rattle.spelling.specs.Printed.{wholeText, floatText}
 use Rattle.spelling.specs.declared.Cursor.{Cursor}
-use Rattle.text.specs.Fields.{numberAt, pointNo, lineNo, valueAt, axisAt, sideAt, radAt, contactAt}
-use Rattle.sketch.specs.declared.Contact.{Contact}
-use Rattle.text.specs.declared.ContactRead.{ContactRead}
 use Rattle.grammar.specs.Job.{Whole, Pattern, Axis, axisX, axisY, Sign, plus, minus, Radius, byPoint, plain, Touch, outside, inside, Field, point, line, value, axis, side, radius, contact, RadiusFits, Content, ContentFits, Contents, ContentsFit}
 use Rattle.grammar.specs.Meaning.{axisOf, signOf, radOf, contactOf, Meant, meantOf, Means, meansOf}
 use Rattle.grammar.specs.Printed.{axisText, signText, radiusText, touchText, contentText, contentsText}

@@ -4,6 +4,7 @@ use mathlib.Core.List.{List, _++_, map, append-assoc}
 use mathlib.Core.Path.{_≡_, refl, sym, ap, _∙_}
 use lib.ListN.{set}
 use Rattle.loops.specs.Turns.{fold}
+use Rattle.phrases.specs.Fields.{vecAt}
 use Rattle.spelling.proofs.FloatForm.{float-reads}
 use Rattle.spelling.proofs.Forms.{Reads, anything, and-reads, as-reads, after-word, then-word}
 use Rattle.spelling.proofs.WholeForm.{whole-reads}
@@ -12,7 +13,6 @@ use Rattle.spelling.specs.Letters.{ascii}
 use Rattle.spelling.specs.Places.{eatOf}
 use Rattle.spelling.specs.Printed.{wholeText}
 use Rattle.spelling.specs.declared.Cursor.{Cursor}
-use Rattle.text.specs.Fields.{vecAt}
 use Rattle.text.specs.Items.{blankPoint, blankLine, blankActive, blankMeasured, pointInto, lineInto, equationInto, measureInto, pointsAt, linesAt, equationsAt, measuresAt}
 use Rattle.text.specs.Lines.{pointLine, lineLine, equationLine, measureLine}
 use Rattle.text.specs.Reader.{countAt, buildAt}

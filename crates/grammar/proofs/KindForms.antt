@@ -10,12 +10,12 @@ use Rattle.spelling.proofs.Forms.{Reads, parted, then-reads, as-reads, pick, pi
 use Rattle.spelling.proofs.Steps.{never, starts}
 use Rattle.spelling.specs.Places.{eatOf}
 use Rattle.spelling.specs.declared.Cursor.{Cursor}
-use Rattle.text.specs.Equations as E
-use Rattle.text.specs.Kinds.{nameOf, orNamed, trying, otherKinds, kindAt}
-use Rattle.text.specs.Measures as M
-use Rattle.text.specs.declared.Kind.{Kind}
-use Rattle.text.specs.declared.KindRead.{KindRead}
-use Rattle.text.specs.declared.MeasureRead.{MeasureRead}
+use Rattle.phrases.specs.Equations as E
+use Rattle.phrases.specs.Kinds.{nameOf, orNamed, trying, otherKinds, kindAt}
+use Rattle.phrases.specs.Measures as M
+use Rattle.phrases.specs.declared.Kind.{Kind}
+use Rattle.phrases.specs.declared.KindRead.{KindRead}
+use Rattle.phrases.specs.declared.MeasureRead.{MeasureRead}
 use Rattle.grammar.specs.Job.{fieldsOf, Gauge, ofDistance, ofAxisDistance, ofLength, ofPointLine, ofRadius, kindOf, valueless, EquationItem, MeasureItem, EquationFits, MeasureFits}
 use Rattle.grammar.specs.Meaning.{equationFrom, measureFrom, activeOf, measuredOf}
 use Rattle.grammar.specs.Printed.{equationText, measureText}

@@ -4,6 +4,7 @@ use mathlib.Core.Bool.{true, cond}
 use mathlib.Core.List.{List, [], _∷_, _++_, append-assoc}
 use mathlib.Core.Path.{_≡_, refl, ap, _∙_}
 use Rattle.loops.specs.Turns.{fold}
+use Rattle.phrases.specs.Fields.{numberAt, valueAt, vecAt}
 use Rattle.spelling.proofs.FloatForm.{float-reads}
 use Rattle.spelling.proofs.Forms.{Reads, parted, anything, word-reads, then-reads, and-reads, as-reads, pick, pickText, pick-reads, after-word, then-word}
 use Rattle.spelling.proofs.WholeForm.{whole-reads}
@@ -12,7 +13,6 @@ use Rattle.spelling.specs.Letters.{ascii}
 use Rattle.spelling.specs.Places.{eatOf}
 use Rattle.spelling.specs.Wholes.{wholeAt}
 use Rattle.spelling.specs.declared.Cursor.{Cursor}
-use Rattle.text.specs.Fields.{numberAt, valueAt, vecAt}
 use Rattle.text.specs.Lines.{stateAt, pointLine, lineLine, equationLine, measureLine}
 use Rattle.text.specs.declared.StateRead.{StateRead}
 use Rattle.grammar.specs.Job.{Place, Standing, free, kept, placed, PointItem, LineItem, EquationItem, MeasureItem, PlaceFits, StandingFits, PointFits, LineFits, EquationFits, MeasureFits}

@@ -1,9 +1,9 @@
 -- Document 01's example, and lines of every sort: what is written and its text, which compute.
 use mathlib.Core.List.{[], _∷_, _++_}
 use mathlib.Core.Path.{_≡_, refl}
+use Rattle.phrases.specs.declared.Kind.{Kind}
 use Rattle.spelling.specs.Letters.{ascii}
 use Rattle.spelling.specs.Printed.{decimal, wholeText, hexadecimal, hexDigit}
-use Rattle.text.specs.declared.Kind.{Kind}
 use Rattle.grammar.specs.Job.{axisX, axisY, plus, minus, byPoint, plain, outside, inside, ofAxisDistance, ofDistance, free, kept, placed, Job}
 use Rattle.grammar.specs.Printed.{pointLineText, lineLineText, equationLineText, measureLineText, jobText}
 

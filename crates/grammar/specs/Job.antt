@@ -3,7 +3,7 @@
 use mathlib.Core.List.{List, [], _∷_}
 use Prim.Native.Nat.{ℕ, _<_}
 use lib.ListN.{length}
-use Rattle.text.specs.declared.Kind.{Kind}
+use Rattle.phrases.specs.declared.Kind.{Kind}
 
 -- a whole number has at most five digits, and a float has 64 bits
 abbrev pub Whole : ℕ → Type 0

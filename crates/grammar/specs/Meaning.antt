@@ -4,6 +4,8 @@ use Prim.Native.Nat.{ℕ, _-_}
 use lib.Ieee.{Float, binary64, ofBits, neg}
 use lib.ListN.{length, replicate}
 use Rattle.floats.specs.Ops.{one}
+use Rattle.phrases.specs.Fields.{pointNo, lineNo}
+use Rattle.phrases.specs.declared.Kind.{Kind}
 use Rattle.plane.specs.declared.Vec2.{Vec2}
 use Rattle.sketch.specs.declared.Active.{Active}
 use Rattle.sketch.specs.declared.Build.{Build}
@@ -17,9 +19,7 @@ use Rattle.sketch.specs.declared.Point.{Point}
 use Rattle.sketch.specs.declared.PointNo.{PointNo}
 use Rattle.sketch.specs.declared.Rad.{Rad}
 use Rattle.sketch.specs.declared.State.{State}
-use Rattle.text.specs.Fields.{pointNo, lineNo}
 use Rattle.text.specs.Items.{blankPoint, blankLine, blankActive, blankMeasured}
-use Rattle.text.specs.declared.Kind.{Kind}
 use Rattle.grammar.specs.Job.{Axis, axisX, axisY, Sign, plus, minus, Radius, byPoint, plain, Touch, outside, inside, Field, point, line, value, axis, side, radius, contact, Content, Contents, fieldsOf, Gauge, ofDistance, ofAxisDistance, ofLength, ofPointLine, ofRadius, kindOf, valueless, Place, Standing, free, kept, placed, PointItem, LineItem, EquationItem, MeasureItem, Job}
 
 abbrev pub floatOf : ℕ → Float

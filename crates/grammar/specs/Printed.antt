@@ -1,9 +1,9 @@
 -- The text of a job (document 01, "The text"): lines `key=value`, each ended by a newline; no spaces.
 use mathlib.Core.List.{List, [], _∷_, _++_}
 use Prim.Native.Nat.{ℕ}
+use Rattle.phrases.specs.Kinds.{nameOf}
 use Rattle.spelling.specs.Letters.{ascii}
 use Rattle.spelling.specs.Printed.{wholeText, floatText}
-use Rattle.text.specs.Kinds.{nameOf}
 use Rattle.grammar.specs.Job.{Axis, axisX, axisY, Sign, plus, minus, Radius, byPoint, plain, Touch, outside, inside, Field, point, line, value, axis, side, radius, contact, Content, Contents, fieldsOf, kindOf, valueless, Place, Standing, free, kept, placed, PointItem, LineItem, EquationItem, MeasureItem, Counts, countsOf, Job}
 
 abbrev pub axisText : Axis → List ℕ

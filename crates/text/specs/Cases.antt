@@ -3,17 +3,17 @@ use mathlib.Core.List.{List, _++_}
 use mathlib.Core.Path.{_≡_, refl}
 use Prim.Native.Nat.{ℕ}
 use Rattle.loops.specs.Turns.{fold, upTo, turns}
+use Rattle.phrases.specs.Equations.{equationAt, levelAt}
+use Rattle.phrases.specs.Fields.{numberAt, valueAt, axisAt, vecAt}
+use Rattle.phrases.specs.Kinds.{orNamed, trying}
+use Rattle.phrases.specs.Measures.{named, measureAt, distanceAt}
 use Rattle.sketch.specs.declared.Ending.the-variants.{BadForm, TooMany}
 use Rattle.spelling.specs.Floating.{hexOf, nextHex}
 use Rattle.spelling.specs.Letters.{ascii}
 use Rattle.spelling.specs.Places.{furtherOf, eatOf}
 use Rattle.spelling.specs.Wholes.{digitOf, firstOf, moreOf}
-use Rattle.text.specs.Equations.{equationAt, levelAt}
-use Rattle.text.specs.Fields.{numberAt, valueAt, axisAt, vecAt}
 use Rattle.text.specs.Items.{pointInto, lineInto, equationInto, measureInto}
-use Rattle.text.specs.Kinds.{orNamed, trying}
 use Rattle.text.specs.Lines.{stateAt, pointLine, lineLine, equationLine, measureLine}
-use Rattle.text.specs.Measures.{named, measureAt, distanceAt}
 use Rattle.text.specs.Reader.{countAt, countsAt, buildAt, readOf}
 use Rattle.text.specs.declared.Outcome.the-variants.{Read, Ends}
 

@@ -2,15 +2,15 @@
 use mathlib.Core.Bool.{cond}
 use mathlib.Core.List.{List}
 use Prim.Native.Nat.{ℕ}
+use Rattle.phrases.specs.Equations.{equationAt}
+use Rattle.phrases.specs.Fields.{numberAt, pointNo, vecAt}
+use Rattle.phrases.specs.Kinds.{wordAt}
+use Rattle.phrases.specs.Measures.{measureAt}
 use Rattle.sketch.specs.declared.State.{State}
 use Rattle.spelling.specs.Letters.{ascii}
 use Rattle.spelling.specs.Places.{eatOf}
 use Rattle.spelling.specs.Wholes.{wholeAt}
 use Rattle.spelling.specs.declared.Cursor.{Cursor}
-use Rattle.text.specs.Equations.{equationAt}
-use Rattle.text.specs.Fields.{numberAt, pointNo, vecAt}
-use Rattle.text.specs.Kinds.{wordAt}
-use Rattle.text.specs.Measures.{measureAt}
 use Rattle.text.specs.declared.ActiveRead.{ActiveRead}
 use Rattle.text.specs.declared.LineRead.{LineRead}
 use Rattle.text.specs.declared.MeasuredRead.{MeasuredRead}

@@ -5,6 +5,8 @@ use Prim.Native.Nat.{ℕ}
 use lib.Dec.{ltb, eqb}
 use lib.ListN.{length, replicate}
 use Rattle.floats.specs.Ops.{zero⁺}
+use Rattle.phrases.specs.Fields.{vecAt}
+use Rattle.phrases.specs.Kinds.{wordAt}
 use Rattle.sketch.specs.declared.Build.{Build}
 use Rattle.sketch.specs.declared.Ending.{Ending}
 use Rattle.spelling.specs.Floating.{floatAt}
@@ -13,9 +15,7 @@ use Rattle.spelling.specs.Places.{eatOf}
 use Rattle.spelling.specs.Wholes.{wholeAt}
 use Rattle.spelling.specs.declared.Cursor.{Cursor}
 use Rattle.spelling.specs.declared.WholeRead.{WholeRead}
-use Rattle.text.specs.Fields.{vecAt}
 use Rattle.text.specs.Items.{blankPoint, blankLine, blankActive, blankMeasured, pointsAt, linesAt, equationsAt, measuresAt}
-use Rattle.text.specs.Kinds.{wordAt}
 use Rattle.text.specs.declared.BuildRead.{BuildRead}
 use Rattle.text.specs.declared.CountsRead.{CountsRead}
 use Rattle.text.specs.declared.Outcome.{Outcome}
