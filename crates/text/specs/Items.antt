@@ -4,6 +4,7 @@ use Prim.Native.Nat.{ℕ}
 use lib.ListN.{replicate, set}
 use Rattle.floats.specs.Ops.{zero⁺}
 use Rattle.loops.specs.Turns.{upTo}
+use Rattle.phrases.specs.Fields.{pointNo, lineNo}
 use Rattle.sketch.specs.declared.Active.{Active}
 use Rattle.sketch.specs.declared.Equation.{Equation}
 use Rattle.sketch.specs.declared.Line.{Line}
@@ -12,7 +13,6 @@ use Rattle.sketch.specs.declared.Measured.{Measured}
 use Rattle.sketch.specs.declared.Point.{Point}
 use Rattle.sketch.specs.declared.State.{State}
 use Rattle.spelling.specs.declared.Cursor.{Cursor}
-use Rattle.text.specs.Fields.{pointNo, lineNo}
 use Rattle.text.specs.Lines.{pointLine, lineLine, equationLine, measureLine}
 use Rattle.text.specs.declared.EquationsRead.{EquationsRead}
 use Rattle.text.specs.declared.LinesRead.{LinesRead}

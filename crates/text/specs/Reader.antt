@@ -1,20 +1,21 @@
 -- The whole text, in document 01's order: its length, the form of the four count lines, the counts' bounds, the rest of the form.
 use mathlib.Core.Bool.{Bool, true, false, not, _&&_, _||_}
-use mathlib.Core.List.{List, [], _∷_}
+use mathlib.Core.List.{List}
 use Prim.Native.Nat.{ℕ}
 use lib.Dec.{ltb, eqb}
 use lib.ListN.{length, replicate}
 use Rattle.floats.specs.Ops.{zero⁺}
+use Rattle.phrases.specs.Fields.{vecAt}
+use Rattle.phrases.specs.Kinds.{wordAt}
 use Rattle.sketch.specs.declared.Build.{Build}
 use Rattle.sketch.specs.declared.Ending.{Ending}
 use Rattle.spelling.specs.Floating.{floatAt}
+use Rattle.spelling.specs.Letters.{ascii}
 use Rattle.spelling.specs.Places.{eatOf}
 use Rattle.spelling.specs.Wholes.{wholeAt}
 use Rattle.spelling.specs.declared.Cursor.{Cursor}
 use Rattle.spelling.specs.declared.WholeRead.{WholeRead}
-use Rattle.text.specs.Fields.{vecAt}
 use Rattle.text.specs.Items.{blankPoint, blankLine, blankActive, blankMeasured, pointsAt, linesAt, equationsAt, measuresAt}
-use Rattle.text.specs.Kinds.{wordAt}
 use Rattle.text.specs.declared.BuildRead.{BuildRead}
 use Rattle.text.specs.declared.CountsRead.{CountsRead}
 use Rattle.text.specs.declared.Outcome.{Outcome}
@@ -27,10 +28,10 @@ countAt s c key = let n = wholeAt s (wordAt s c key) in record { value = n .valu
 -- the four count lines, from the start of the text
 unfoldable pub countsAt : List ℕ → CountsRead
 countsAt s =
-    let p = countAt s (record { at = 0; ok = true }) (112 ∷ 111 ∷ 105 ∷ 110 ∷ 116 ∷ 115 ∷ 61 ∷ []) in
-    let l = countAt s (p .next) (108 ∷ 105 ∷ 110 ∷ 101 ∷ 115 ∷ 61 ∷ []) in
-    let e = countAt s (l .next) (101 ∷ 113 ∷ 117 ∷ 97 ∷ 116 ∷ 105 ∷ 111 ∷ 110 ∷ 115 ∷ 61 ∷ []) in
-    let m = countAt s (e .next) (109 ∷ 101 ∷ 97 ∷ 115 ∷ 117 ∷ 114 ∷ 101 ∷ 115 ∷ 61 ∷ []) in
+    let p = countAt s (record { at = 0; ok = true }) (ascii "points=") in
+    let l = countAt s (p .next) (ascii "lines=") in
+    let e = countAt s (l .next) (ascii "equations=") in
+    let m = countAt s (e .next) (ascii "measures=") in
     record { points = p .value; lines = l .value; equations = e .value; measures = m .value; next = m .next }
 
 abbrev pub overCounts : CountsRead → Bool
@@ -39,8 +40,8 @@ overCounts n = ltb 40 (n .points) || ltb 40 (n .lines) || ltb 40 (n .equations) 
 -- what comes after the counts: "centre=", "size=" and the items
 unfoldable pub buildAt : List ℕ → CountsRead → BuildRead
 buildAt s n =
-    let v = vecAt s (wordAt s (n .next) (99 ∷ 101 ∷ 110 ∷ 116 ∷ 114 ∷ 101 ∷ 61 ∷ [])) in
-    let z = floatAt s (wordAt s (v .next) (10 ∷ 115 ∷ 105 ∷ 122 ∷ 101 ∷ 61 ∷ [])) in
+    let v = vecAt s (wordAt s (n .next) (ascii "centre=")) in
+    let z = floatAt s (wordAt s (v .next) (ascii "\nsize=")) in
     let p = pointsAt s (eatOf s (z .next) 10) (n .points) in
     let l = linesAt s (p .next) (n .lines) in
     let e = equationsAt s (l .next) (n .equations) in

@@ -1,90 +1,20 @@
 // The text of a job: from its bytes to a build (document 01, "The text"). Each reading takes a place and gives the next; what
 // fails gives a spoilt place, which stays spoilt, so that the form is judged once, where the reading ends.
-mod equations;
-mod fields;
-mod gauges;
 mod items;
-mod kinds;
-mod operands;
 mod reader;
 mod rows;
 
-use plane::Vec2;
 pub use reader::read;
 use sketch::Active;
 use sketch::Build;
-use sketch::Contact;
 use sketch::Ending;
-use sketch::Equation;
 use sketch::Line;
-use sketch::Measure;
 use sketch::Measured;
 use sketch::Point;
-use sketch::Rad;
 use sketch::State;
 use spelling::Cursor;
 
-// The kinds of an equation, before its fields are read.
-pub enum Kind {
-    Coincident,
-    Level,
-    Parallel,
-    Perpendicular,
-    Collinear,
-    Equal,
-    Held,
-    Distance,
-    AxisDistance,
-    Length,
-    PointLine,
-    ArcEnds,
-    Radius,
-    LineCircle,
-    CircleCircle,
-    LineArcAt,
-    ArcArcAt,
-    Midpoint,
-    ArcMidpoint,
-    Symmetric,
-    EqualRadius,
-}
-
 // What was read, and the place after it.
-pub struct KindRead {
-    pub kind: Kind,
-    pub next: Cursor,
-}
-
-pub struct AxisRead {
-    pub axis: usize,
-    pub next: Cursor,
-}
-
-pub struct RadRead {
-    pub rad: Rad,
-    pub next: Cursor,
-}
-
-pub struct ContactRead {
-    pub contact: Contact,
-    pub next: Cursor,
-}
-
-pub struct VecRead {
-    pub vec: Vec2,
-    pub next: Cursor,
-}
-
-pub struct EquationRead {
-    pub equation: Equation,
-    pub next: Cursor,
-}
-
-pub struct MeasureRead {
-    pub measure: Measure,
-    pub next: Cursor,
-}
-
 pub struct StateRead {
     pub state: State,
     pub next: Cursor,

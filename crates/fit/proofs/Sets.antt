@@ -1,0 +1,21 @@
+-- From what the calls of `set_out` promise to the frame. Assumes nothing.
+use Prim.Native.Nat.{ℕ}
+use mathlib.Core.List.{List}
+use mathlib.Core.Path.{_≡_}
+use Rattle.groups.specs.Chains.{pointsIn, equationsIn}
+use Rattle.groups.specs.declared.Grouping.{Grouping}
+use Rattle.members.specs.Lists.{Lists, numbersOf, numbers-are}
+use Rattle.members.specs.Movable.{Holds, pointsAt, freeFrom, indicesOf, indices-are}
+use Rattle.members.specs.Tables.{placesOf, columnsOf}
+use Rattle.members.specs.declared.Coordinates.{Coordinates}
+use Rattle.members.specs.declared.Listed.{Listed}
+use Rattle.sketch.specs.declared.Point.{Point}
+use Rattle.fit.specs.Frames.{frameOf}
+
+pub set-out-is : (points : List Point) (gr : Grouping) (g : ℕ) (l e : Listed) (f : Coordinates) (places columns : List ℕ) → Lists l (pointsIn gr g)
+    → Lists e (equationsIn gr g) → Holds f (freeFrom 0 (pointsAt points (numbersOf l))) → places ≡ placesOf (numbersOf l) → columns ≡ columnsOf (indicesOf f)
+    → record { points = l; equations = e; free = f; places = places; columns = columns } ≡ frameOf points gr g
+unfolding frameOf
+set-out-is points gr g l e f places columns hl he hf hp hc =
+    let h : Holds f (freeFrom 0 (pointsAt points (pointsIn gr g))) = rw (numbers-are l (pointsIn gr g) hl) at hf in
+    rw (hp, hc, numbers-are l (pointsIn gr g) hl, indices-are f (freeFrom 0 (pointsAt points (pointsIn gr g))) h, hl .is, he .is, h .is)

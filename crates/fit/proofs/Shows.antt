@@ -1,0 +1,108 @@
+-- From what the calls of a fit promise to its own promise. Assumes nothing.
+use Prim.Native.Nat.{ℕ, _-_, _*_, _≤_, min}
+use mathlib.Core.Bool.{Bool, true, false, cond, _||_}
+use mathlib.Core.List.{List, _++_, map}
+use mathlib.Core.Path.{_≡_, refl, sym, ap, _∙_}
+use native.Mathlib.Omega.{arith}
+use borrow.Author.Tests.{le-ltb}
+use lib.Ieee.{Float}
+use lib.ListN.{length, take, drop, replicate, length-take, length-map, length-replicate}
+use lib.Seq.{take-at, drop-at}
+use Rattle.floats.specs.Ops.{zero⁺}
+use Rattle.members.proofs.Sized.{taken}
+use Rattle.members.specs.Lists.{numbersOf}
+use Rattle.members.specs.Movable.{pointsAt, indicesOf}
+use Rattle.members.specs.Scale.{startOf, start-length}
+use Rattle.members.specs.Scale as scale
+use Rattle.fit.proofs.Begun.{begun, fewer}
+use Rattle.members.specs.declared.Listed.{Listed}
+use Rattle.rounds.specs.Promise.{Solves, outcomeOf, answeredBy, coordinatesOf, zeroed, saying, tooMany, tooShort}
+use Rattle.rounds.specs.Problem.{rowCount, valuesAt}
+use Rattle.rounds.specs.Solve.{Outcome, converged, failed}
+use Rattle.rounds.specs.declared.Ending.the-variants.{TooShort}
+use Rattle.rounds.specs.declared.Solved.{Solved}
+use Rattle.sketch.specs.declared.Active.{Active}
+use Rattle.sketch.specs.declared.Build.{Build}
+use Rattle.sketch.specs.declared.Line.{Line}
+use Rattle.solver.specs.Sums.{maxAbsOf}
+use Rattle.fit.specs.Fits.{Fits, shownOf, fittedBy, refusal, short, worstOf}
+use Rattle.fit.specs.Frames.{startIn}
+use Rattle.fit.specs.declared.Fitted.{Fitted}
+use Rattle.fit.specs.declared.Frame.{Frame}
+
+-- what is shown of an outcome
+shown-by : (n : ℕ) (o : Outcome) (s : Solved) (x x′ rest : List Float) (t : Fitted) → s ≡ answeredBy o → x′ ≡ coordinatesOf x o → rest ≡ replicate (80 - n) zero⁺
+    → t ≡ shownOf s (x′ ++ rest) → t ≡ fittedBy n o
+shown-by n (converged y i k) s x x′ rest t es ex er et = et ∙ rw (es, ex, er)
+shown-by n (failed i k) s x x′ rest t es ex er et = et ∙ rw es
+
+-- elimination of the bounds that a frame keeps
+module _ (es : List Active) (ls : List Line) (places columns chosen free : List ℕ) (x p q r x′ p′ q′ r′ : List Float) (s : Solved)
+    (few : length chosen ≤ 40) (narrow : length free ≤ 80) (long : length x ≤ 80) (e : Solves es ls places columns chosen free x p q r x′ p′ q′ r′ s) where
+  none : tooMany es ls places columns chosen free x p q r ≡ false
+  none = rw (le-ltb 40 (length chosen) few, le-ltb 80 (length free) narrow, le-ltb 80 (length x) long)
+
+  answer : s ≡ cond (short p q r) (saying TooShort 0 0) (answeredBy (outcomeOf es ls places columns chosen free x))
+  answer = e .answer ∙ rw none
+
+  coordinates : x′ ≡ cond (short p q r) x (coordinatesOf x (outcomeOf es ls places columns chosen free x))
+  coordinates = e .coordinates ∙ rw none
+
+  area-p : p′ ≡ cond (short p q r) p (zeroed (rowCount es chosen * length free) p)
+  area-p = e .jacobian ∙ rw none
+
+  area-q : q′ ≡ cond (short p q r) q (zeroed (rowCount es chosen * rowCount es chosen) q)
+  area-q = e .product ∙ rw none
+
+  area-r : r′ ≡ cond (short p q r) r (zeroed (rowCount es chosen * rowCount es chosen) r)
+  area-r = e .copy ∙ rw none
+
+  shown : (n : ℕ) (rest : List Float) (t : Fitted) → rest ≡ replicate (80 - n) zero⁺ → t ≡ shownOf s (x′ ++ rest)
+      → t ≡ cond (short p q r) refusal (fittedBy n (outcomeOf es ls places columns chosen free x))
+  shown n rest t er et = pick (short p q r) answer coordinates
+    where
+      pick : (v : Bool) → s ≡ cond v (saying TooShort 0 0) (answeredBy (outcomeOf es ls places columns chosen free x))
+          → x′ ≡ cond v x (coordinatesOf x (outcomeOf es ls places columns chosen free x))
+          → t ≡ cond v refusal (fittedBy n (outcomeOf es ls places columns chosen free x))
+      pick true ea ex = et ∙ rw ea
+      pick false ea ex = shown-by n (outcomeOf es ls places columns chosen free x) s x x′ rest t ea ex er et
+
+module _ (b : Build) (f : Frame) (chosen : Listed) (p q r p′ q′ r′ x x′ : List Float) (k₁ k₂ k₃ : ℕ) (s : Solved) (t : Fitted) where
+  pub fit-is : length (f .points .items) ≡ 40 → length (chosen .items) ≡ 40 → length (f .free .items) ≡ 80 → k₁ ≡ min (f .points .count) 40 → k₂ ≡ min (chosen .count) 40
+      → k₃ ≡ min (f .free .count) 80 → x ≡ scale.startIn (b .centre) (b .size) (pointsAt (b .points) (numbersOf (f .points))) (replicate 80 zero⁺)
+      → Solves (b .equations) (b .lines) (f .places) (f .columns) (take k₂ (chosen .items)) (take k₃ (f .free .items)) (take (2 * k₁) x) p q r x′ p′ q′ r′ s
+      → t ≡ shownOf s (x′ ++ drop (2 * k₁) x) → Fits b f chosen p q r p′ q′ r′ t
+  fit-is l n m e₁ e₂ e₃ ex es et =
+      let ps = pointsAt (b .points) (numbersOf (f .points)) in
+      let c : take k₂ (chosen .items) ≡ numbersOf chosen = taken (chosen .items) (chosen .count) k₂ 40 n e₂ in
+      let d : take k₃ (f .free .items) ≡ indicesOf (f .free) = taken (f .free .items) (f .free .count) k₃ 80 m e₃ in
+      let few : length (numbersOf chosen) ≤ 40 = rw length-take (omega (arith, n)) in
+      let narrow : length (indicesOf (f .free)) ≤ 80 = rw length-take (omega (arith, m)) in
+      let count : length ps ≡ k₁ = length-map (numbersOf (f .points)) _ ∙ length-take (f .points .count) (f .points .items) ∙ rw l (sym e₁) in
+      let size : length (startIn b f) ≡ 2 * k₁ = start-length (b .centre) (b .size) ps ∙ rw count in
+      let room : 2 * length ps ≤ length (replicate 80 zero⁺) = rw (count, length-replicate 80 zero⁺) (omega (arith, e₁)) in
+      let begins : x ≡ startIn b f ++ drop (2 * length ps) (replicate 80 zero⁺) = begun (b .centre) (b .size) ps x ex room in
+      let head : take (2 * k₁) x ≡ startIn b f = rw begins (take-at (startIn b f) (drop (2 * length ps) (replicate 80 zero⁺)) (2 * k₁) size) in
+      let same : 2 * length ps ≡ length (startIn b f) = sym (start-length (b .centre) (b .size) ps) in
+      let tail : drop (2 * k₁) x ≡ replicate (80 - length (startIn b f)) zero⁺ =
+      ap (drop (2 * k₁)) begins ∙ drop-at (startIn b f) (drop (2 * length ps) (replicate 80 zero⁺)) (2 * k₁) size ∙ fewer 80 (2 * length ps) zero⁺ ∙ rw same in
+      let long : length (startIn b f) ≤ 80 = rw size (omega (arith, e₁)) in
+      let solved : Solves (b .equations) (b .lines) (f .places) (f .columns) (numbersOf chosen) (indicesOf (f .free)) (startIn b f) p q r x′ p′ q′ r′ s = rw (c, d, head) at es in
+      carried solved few narrow long tail et
+    where
+      carried : Solves (b .equations) (b .lines) (f .places) (f .columns) (numbersOf chosen) (indicesOf (f .free)) (startIn b f) p q r x′ p′ q′ r′ s
+          → length (numbersOf chosen) ≤ 40 → length (indicesOf (f .free)) ≤ 80 → length (startIn b f) ≤ 80 → drop (2 * k₁) x ≡ replicate (80 - length (startIn b f)) zero⁺
+          → t ≡ shownOf s (x′ ++ drop (2 * k₁) x) → Fits b f chosen p q r p′ q′ r′ t
+      carried e few narrow long er et = record {
+        answer =
+            shown (b .equations) (b .lines) (f .places) (f .columns) (numbersOf chosen) (indicesOf (f .free)) (startIn b f) p q r x′ p′ q′ r′ s few narrow long e
+            (length (startIn b f)) (drop (2 * k₁) x) t er et;
+        jacobian = area-p (b .equations) (b .lines) (f .places) (f .columns) (numbersOf chosen) (indicesOf (f .free)) (startIn b f) p q r x′ p′ q′ r′ s few narrow long e;
+        product = area-q (b .equations) (b .lines) (f .places) (f .columns) (numbersOf chosen) (indicesOf (f .free)) (startIn b f) p q r x′ p′ q′ r′ s few narrow long e;
+        copy = area-r (b .equations) (b .lines) (f .places) (f .columns) (numbersOf chosen) (indicesOf (f .free)) (startIn b f) p q r x′ p′ q′ r′ s few narrow long e;
+      }
+
+pub worst-is : (b : Build) (f : Frame) (x : List Float) (chosen : List ℕ) (r : List Float) (m : Float) → chosen ≡ numbersOf (f .equations)
+    → r ≡ valuesAt (b .equations) (b .lines) (f .places) chosen x → m ≡ maxAbsOf r → m ≡ worstOf b f x
+unfolding worstOf
+worst-is b f x chosen r m c e h = h ∙ rw (e, c)

@@ -1,0 +1,245 @@
+-- Each field is read exactly as it is written, with the comma in front of it. Assumes nothing.
+use Prim.Native.Nat.{ℕ}
+use mathlib.Core.Bool.{Bool, true, false, cond}
+use mathlib.Core.List.{List, [], _∷_, _++_}
+use mathlib.Core.Path.{_≡_, refl, sym, ap, ap₂, _∙_}
+use Rattle.loops.specs.Turns.{fold}
+use Rattle.phrases.specs.Fields.{numberAt, pointNo, lineNo, valueAt, axisAt, sideAt, radAt, contactAt}
+use Rattle.phrases.specs.declared.ContactRead.{ContactRead}
+use Rattle.sketch.specs.declared.Contact.{Contact}
+use Rattle.spelling.proofs.FloatForm.{float-reads}
+use Rattle.spelling.proofs.Forms.{Reads, parted, anything, before-more, word-reads, then-reads, and-reads, as-reads, pick, pickText, pick-reads, after-word}
+use Rattle.spelling.proofs.WholeForm.{whole-reads}
+use Rattle.spelling.specs.Floating.{bitsAt}
+use Rattle.spelling.specs.Letters.{ascii}
+use Rattle.spelling.specs.Places.{eatOf}
+use Rattle.spelling.specs.Printed.{wholeText, floatText}
+use Rattle.spelling.specs.declared.Cursor.{Cursor}
+use Rattle.grammar.specs.Job.{Whole, Pattern, Axis, axisX, axisY, Sign, plus, minus, Radius, byPoint, plain, Touch, outside, inside, Field, point, line, value, axis, side, radius, contact, RadiusFits, Content, ContentFits, Contents, ContentsFit}
+use Rattle.grammar.specs.Meaning.{axisOf, signOf, radOf, contactOf, Meant, meantOf, Means, meansOf}
+use Rattle.grammar.specs.Printed.{axisText, signText, radiusText, touchText, contentText, contentsText}
+
+always : (t : List ℕ) → parted t ≡ true → anything t ≡ true
+always t h = refl
+
+pub number-reads : Reads (λ n. ascii "," ++ wholeText n) Whole (λ s c. numberAt s c .value) (λ s c. numberAt s c .next) parted
+unfolding numberAt fold
+number-reads = after-word (ascii ",") whole-reads
+
+abbrev pub readValue : List ℕ → Cursor → ℕ
+readValue s c = bitsAt s (eatOf s c 44) .bits
+
+pub value-reads : Reads (λ b. ascii "," ++ floatText b) Pattern readValue (λ s c. valueAt s c .next) anything
+unfolding valueAt fold
+value-reads = after-word (ascii ",") float-reads
+
+-- what a test picks, taken further
+pub cond-over : {K R : Type 0} (f : K → R) (b : Bool) (x y : K) → cond b (f x) (f y) ≡ f (cond b x y)
+cond-over f true x y = refl
+cond-over f false x y = refl
+
+-- Axes, signs and contacts: one of a few words.
+abbrev axisWord : Axis → List ℕ
+axisWord a = ascii "," ++ axisText a
+
+abbrev readAxis : List ℕ → Cursor → Axis
+readAxis s c = pick axisWord s c (axisX ∷ []) axisY
+
+axis-found : (a : Axis) (t : List ℕ) → parted t ≡ true → pickText axisWord (axisX ∷ []) axisY (axisWord a ++ t) ≡ a
+axis-found axisX t h = refl
+axis-found axisY t h = refl
+
+axis-at : (s : List ℕ) (c : Cursor) → axisAt s c ≡ record { axis = axisOf (readAxis s c); next = fold (eatOf s) c (axisWord (readAxis s c)) }
+unfolding axisAt pick
+axis-at s c = cond-over (λ a. record { axis = axisOf a; next = fold (eatOf s) c (axisWord a) }) (fold (eatOf s) c (axisWord axisX) .ok) axisX axisY
+
+abbrev signWord : Sign → List ℕ
+signWord k = ascii "," ++ signText k
+
+abbrev readSide : List ℕ → Cursor → Sign
+readSide s c = pick signWord s c (plus ∷ []) minus
+
+side-found : (k : Sign) (t : List ℕ) → parted t ≡ true → pickText signWord (plus ∷ []) minus (signWord k ++ t) ≡ k
+side-found plus t h = refl
+side-found minus t h = refl
+
+side-at : (s : List ℕ) (c : Cursor) → sideAt s c ≡ record { value = signOf (readSide s c); next = fold (eatOf s) c (signWord (readSide s c)) }
+unfolding sideAt pick
+side-at s c = cond-over (λ k. record { value = signOf k; next = fold (eatOf s) c (signWord k) }) (fold (eatOf s) c (signWord plus) .ok) plus minus
+
+abbrev touchWord : Touch → List ℕ
+touchWord o = ascii "," ++ touchText o
+
+abbrev readContact : List ℕ → Cursor → Touch
+readContact s c = pick touchWord s c (outside ∷ inside plus ∷ []) (inside minus)
+
+contact-found : (o : Touch) (t : List ℕ) → parted t ≡ true → pickText touchWord (outside ∷ inside plus ∷ []) (inside minus) (touchWord o ++ t) ≡ o
+contact-found outside t h = refl
+contact-found (inside plus) t h = refl
+contact-found (inside minus) t h = refl
+
+contact-at : (s : List ℕ) (c : Cursor) → contactAt s c ≡ record { contact = contactOf (readContact s c); next = fold (eatOf s) c (touchWord (readContact s c)) }
+unfolding contactAt pick
+contact-at s c =
+    let f : Touch → ContactRead = λ o. record { contact = contactOf o; next = fold (eatOf s) c (touchWord o) } in
+    let o = fold (eatOf s) c (touchWord outside) .ok in
+    let p = fold (eatOf s) c (signWord plus) .ok in
+    ap (λ r. cond {A = ContactRead} o (f outside) (record { contact = Contact.Inside (r .value); next = r .next })) (side-at s c)
+    ∙ cond-over f o outside (inside (cond p plus minus)) ∙ ap (λ r. f (cond o outside r)) (sym (cond-over inside p plus minus))
+
+-- A radius: a word, and then a point or a float.
+pub data By : Type 0 where
+  number float : By
+
+abbrev byWord : By → List ℕ
+byWord number = ascii ",p"
+byWord float = ascii ",v"
+
+abbrev byText : By → ℕ → List ℕ
+byText number n = ascii "," ++ wholeText n
+byText float b = ascii "," ++ floatText b
+
+abbrev ByFits : By → ℕ → Type 0
+ByFits number n = Whole n
+ByFits float b = Pattern b
+
+abbrev readBy : By → List ℕ → Cursor → ℕ
+readBy number s c = numberAt s c .value
+readBy float s c = readValue s c
+
+abbrev nextBy : By → List ℕ → Cursor → Cursor
+nextBy number s c = numberAt s c .next
+nextBy float s c = valueAt s c .next
+
+by-reads : (k : By) → Reads (byText k) (ByFits k) (readBy k) (nextBy k) parted
+by-reads number = number-reads
+by-reads float = before-more parted always value-reads
+
+by-found : (k : By) (t : List ℕ) → anything t ≡ true → pickText byWord (number ∷ []) float (byWord k ++ t) ≡ k
+by-found number t h = refl
+by-found float t h = refl
+
+abbrev radiusOf : By → ℕ → Radius
+radiusOf number n = byPoint n
+radiusOf float b = plain b
+
+abbrev byOf : Radius → By × ℕ
+byOf (byPoint n) = (number, n)
+byOf (plain b) = (float, b)
+
+abbrev readRadius : List ℕ → Cursor → Radius
+readRadius s c = let k = pick byWord s c (number ∷ []) float in radiusOf k (readBy k s (fold (eatOf s) c (byWord k)))
+
+rad-at : (s : List ℕ) (c : Cursor) → let k = pick byWord s c (number ∷ []) float in
+    radAt s c ≡ record { rad = radOf (readRadius s c); next = nextBy k s (fold (eatOf s) c (byWord k)) }
+unfolding radAt pick valueAt
+rad-at s c =
+    cond-over (λ k. record { rad = radOf (radiusOf k (readBy k s (fold (eatOf s) c (byWord k)))); next = nextBy k s (fold (eatOf s) c (byWord k)) })
+    (fold (eatOf s) c (byWord number) .ok) number float
+
+radius-reads : Reads (λ r. ascii "," ++ radiusText r) RadiusFits readRadius (λ s c. radAt s c .next) parted
+radius-reads =
+    as-reads (λ p. radiusOf (p .0) (p .1)) byOf whole text-to (λ p. text-of (p .0) (p .1)) fit-to (λ p. fit-of (p .0) (p .1)) (λ s c. refl) (λ s c. ap (λ r. r .next) (rad-at s c))
+    (then-reads (pick-reads byWord (number ∷ []) float anything by-found) by-reads (λ k n t h. refl))
+  where
+    whole : (r : Radius) → radiusOf (byOf r .0) (byOf r .1) ≡ r
+    whole (byPoint n) = refl
+    whole (plain b) = refl
+
+    text-to : (r : Radius) → ascii "," ++ radiusText r ≡ byWord (byOf r .0) ++ byText (byOf r .0) (byOf r .1)
+    text-to (byPoint n) = refl
+    text-to (plain b) = refl
+
+    text-of : (k : By) (n : ℕ) → ascii "," ++ radiusText (radiusOf k n) ≡ byWord k ++ byText k n
+    text-of number n = refl
+    text-of float b = refl
+
+    fit-to : (r : Radius) → RadiusFits r → Unit {0} × ByFits (byOf r .0) (byOf r .1)
+    fit-to (byPoint n) h = (tt, h)
+    fit-to (plain b) h = (tt, h)
+
+    fit-of : (k : By) (n : ℕ) → Unit {0} × ByFits k n → RadiusFits (radiusOf k n)
+    fit-of number n h = h .1
+    fit-of float b h = h .1
+
+-- Every field, and what the reader gives for it.
+abbrev pub readField : (f : Field) → List ℕ → Cursor → Content f
+readField point s c = numberAt s c .value
+readField line s c = numberAt s c .value
+readField value s c = readValue s c
+readField axis s c = readAxis s c
+readField side s c = readSide s c
+readField radius s c = readRadius s c
+readField contact s c = readContact s c
+
+abbrev pub nextField : Field → List ℕ → Cursor → Cursor
+nextField point s c = numberAt s c .next
+nextField line s c = numberAt s c .next
+nextField value s c = valueAt s c .next
+nextField axis s c = axisAt s c .next
+nextField side s c = sideAt s c .next
+nextField radius s c = radAt s c .next
+nextField contact s c = contactAt s c .next
+
+abbrev pub givenField : (f : Field) → List ℕ → Cursor → Meant f
+givenField point s c = pointNo (numberAt s c .value)
+givenField line s c = lineNo (numberAt s c .value)
+givenField value s c = valueAt s c .value
+givenField axis s c = axisAt s c .axis
+givenField side s c = sideAt s c .value
+givenField radius s c = radAt s c .rad
+givenField contact s c = contactAt s c .contact
+
+given-is : (f : Field) (s : List ℕ) (c : Cursor) → givenField f s c ≡ meantOf f (readField f s c)
+unfolding valueAt
+given-is point s c = refl
+given-is line s c = refl
+given-is value s c = refl
+given-is axis s c = ap (λ r. r .axis) (axis-at s c)
+given-is side s c = ap (λ r. r .value) (side-at s c)
+given-is radius s c = ap (λ r. r .rad) (rad-at s c)
+given-is contact s c = ap (λ r. r .contact) (contact-at s c)
+
+-- a reading of one of a few words
+word-field : {K : Type 0} (word : K → List ℕ) (l : List K) (d : K) (next : List ℕ → Cursor → Cursor)
+    → ((s : List ℕ) (c : Cursor) → next s c ≡ fold (eatOf s) c (word (pick word s c l d)))
+    → ((k : K) (t : List ℕ) → parted t ≡ true → pickText word l d (word k ++ t) ≡ k)
+    → Reads word (λ _. Unit {0}) (λ s c. pick word s c l d) next parted
+word-field word l d next e found =
+    as-reads (λ k. k) (λ k. k) (λ b. refl) (λ b. refl) (λ a. refl) (λ b h. h) (λ a h. h) (λ s c. refl) e (pick-reads word l d parted found)
+
+field-reads : (f : Field) → Reads (λ v. ascii "," ++ contentText f v) (ContentFits f) (readField f) (nextField f) parted
+field-reads point = number-reads
+field-reads line = number-reads
+field-reads value = before-more parted always value-reads
+field-reads axis = word-field axisWord (axisX ∷ []) axisY _ (λ s c. ap (λ r. r .next) (axis-at s c)) axis-found
+field-reads side = word-field signWord (plus ∷ []) minus _ (λ s c. ap (λ r. r .next) (side-at s c)) side-found
+field-reads radius = radius-reads
+field-reads contact = word-field touchWord (outside ∷ inside plus ∷ []) (inside minus) _ (λ s c. ap (λ r. r .next) (contact-at s c)) contact-found
+
+-- Fields one after another.
+abbrev pub readFields : (l : List Field) → List ℕ → Cursor → Contents l
+readFields [] s c = tt
+readFields (f ∷ l) s c = (readField f s c, readFields l s (nextField f s c))
+
+abbrev pub nextFields : List Field → List ℕ → Cursor → Cursor
+nextFields [] s c = c
+nextFields (f ∷ l) s c = nextFields l s (nextField f s c)
+
+abbrev pub givenFields : (l : List Field) → List ℕ → Cursor → Means l
+givenFields [] s c = tt
+givenFields (f ∷ l) s c = (givenField f s c, givenFields l s (nextField f s c))
+
+pub givens-are : (l : List Field) (s : List ℕ) (c : Cursor) → givenFields l s c ≡ meansOf l (readFields l s c)
+givens-are [] s c = refl
+givens-are (f ∷ l) s c = ap₂ {C = Means (f ∷ l)} (λ m r. (m, r)) (given-is f s c) (givens-are l s (nextField f s c))
+
+-- what comes after a number or a name is parted from it, by a field's comma or by what comes after the fields
+pub fields-part : (l : List Field) (v : Contents l) (t : List ℕ) → parted t ≡ true → parted (contentsText l v ++ t) ≡ true
+fields-part [] v t h = h
+fields-part (f ∷ l) v t h = refl
+
+pub fields-reads : (l : List Field) → Reads (contentsText l) (ContentsFit l) (readFields l) (nextFields l) parted
+unfolding fold
+fields-reads [] = before-more parted always (word-reads [])
+fields-reads (f ∷ l) = and-reads (field-reads f) (fields-reads l) (fields-part l)

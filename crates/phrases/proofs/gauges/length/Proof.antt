@@ -1,0 +1,12 @@
+-- Assumes nothing.
+use Rattle.phrases.specs.Measures.{lengthAt}
+use borrow.Author.Needs.{needs}
+use Rattle.phrases.proofs.gauges.length.Statement.{statement}
+use Rattle.phrases.proofs.gauges.length.Tie as tie
+
+returns : tie.Need-returns
+unfolding lengthAt
+returns c = rw (c .before .number .ensures)
+
+pub length-spec : {M : Type 1} → statement M
+length-spec = tie.close (tie.spec (λ c κs. search needs) returns)
