@@ -3,3 +3,4 @@ pub mod Shows
 pub mod Sets
 pub mod RanksLaws
 pub mod MarksLaws
+pub mod Theorem
