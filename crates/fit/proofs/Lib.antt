@@ -1,1 +1,2 @@
 pub mod RanksLaws
+pub mod MarksLaws

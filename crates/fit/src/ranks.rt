@@ -5,8 +5,8 @@ ghost use lib.ListN.{length};
 ghost use Rattle.members.specs.Lists.{numbersOf};
 ghost use Rattle.members.specs.Movable.{indicesOf};
 ghost use Rattle.fit.specs.Fits.{Frees, Lays, Ranks, freedBy};
-use crate::Frame;
 use crate::Degrees;
+use crate::Frame;
 use members::Coordinates;
 use members::Listed;
 use nullspace::NullSpace;
@@ -53,6 +53,7 @@ fn rank(rows: usize, nf: usize, p: &mut [f64], q: &mut [f64], r: &mut [f64]) -> 
     s
 }
 
+// Nothing is left where k is not below n.
 fn less(n: usize, k: usize) -> usize
     ensures { λ r. ⌜ r ≡ n - k ⌝ }
 {
@@ -71,7 +72,14 @@ fn freed(nf: usize, s: NullSpace) -> Degrees
 }
 
 // The Jacobian lies in p; q and r are null space's working room and output.
-pub fn freedom(b: Build, f: Frame, x: &[f64], p: &mut [f64], q: &mut [f64], r: &mut [f64]) -> Degrees
+pub fn freedom(
+    b: Build,
+    f: Frame,
+    x: &[f64],
+    p: &mut [f64],
+    q: &mut [f64],
+    r: &mut [f64],
+) -> Degrees
     ensures { λ t. ⌜ Frees b f (now (x .entry)) (now (p .entry)) (now (q .entry)) (now (r .entry)) (now (p .exit)) (now (q .exit)) (now (r .exit)) t ⌝ }
 {
     if (p.len() < 6400) | (q.len() < 6400) | (r.len() < 6400) {

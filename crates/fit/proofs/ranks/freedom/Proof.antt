@@ -1,27 +1,16 @@
+-- Assumes nothing.
 use lib.ListN.{length}
 use Rattle.rounds.proofs.Begins.{none-short}
 use Rattle.fit.proofs.RanksLaws.{refused, frees}
 use borrow.Author.Needs.{needs}
 use Rattle.fit.proofs.ranks.freedom.Statement.{statement}
 use Rattle.fit.proofs.ranks.freedom.Tie as tie
-use Rattle.fit.proofs.ranks.freedom.Reads as reads
-use Rattle.fit.proofs.ranks.freedom.Lts as lts
-use Rattle.fit.proofs.ranks.freed.Reads as freed-reads
-use Rattle.fit.proofs.ranks.held.Reads as held-reads
-use Rattle.fit.proofs.ranks.lay.Reads as lay-reads
-use Rattle.fit.proofs.ranks.rank.Reads as rank-reads
 
--- src/ranks.rt:78:9
 returns : tie.Need-returns
 returns c =
     let s = c .before .before .before .before .before in
     refused (s .args .b) (s .args .f) (s .args .x .now) (s .args .p .now) (s .args .q .now) (s .args .r .now) (c .if1 .taken)
 
--- src/ranks.rt:81:9
-held-requires : tie.Need-held-requires
-held-requires c κs = search needs
-
--- src/ranks.rt:82:9
 lay-requires : tie.Need-lay-requires
 lay-requires c κs =
     let h = c .before in
@@ -30,7 +19,6 @@ lay-requires c κs =
     let room = none-short (length (s .args .p .now)) (length (s .args .q .now)) (length (s .args .r .now)) (i .if1 .left) in
     (h .held .ensures .0, h .held .ensures .1, room .0)
 
--- src/ranks.rt:83:15
 rank-requires : tie.Need-rank-requires
 rank-requires c κs =
     let l = c .before .before .before .before .before in
@@ -40,23 +28,6 @@ rank-requires c κs =
     let room = none-short (length (s .args .p .now)) (length (s .args .q .now)) (length (s .args .r .now)) (i .if1 .left) in
     (l .lay .ensures .few, h .held .ensures .1, rw (l .lay .kept .1 .1 .1 .1 .0) (room .0), room .1, room .2)
 
--- src/ranks.rt:83:5
-freed-requires : tie.Need-freed-requires
-freed-requires c κs = search needs
-
--- src/ranks.rt:74:1
-same-length : tie.Need-same-length
-same-length c = search needs
-
--- src/ranks.rt:74:1
-same-length-2 : tie.Need-same-length-2
-same-length-2 c = search needs
-
--- src/ranks.rt:74:1
-same-length-3 : tie.Need-same-length-3
-same-length-3 c = search needs
-
--- src/ranks.rt:74:1
 returns-2 : tie.Need-returns-2
 returns-2 c =
     let k = c .before .before .before .before .before .before .before in
@@ -72,11 +43,11 @@ freedom-spec =
     tie.close
     (tie.spec
     returns
-    held-requires
+    (λ c κs. search needs)
     lay-requires
     rank-requires
-    freed-requires
-    same-length
-    same-length-2
-    same-length-3
+    (λ c κs. search needs)
+    (λ c. search needs)
+    (λ c. search needs)
+    (λ c. search needs)
     returns-2)

@@ -1,17 +1,14 @@
+-- Assumes nothing.
 use Rattle.members.proofs.Sized.{sized}
 use Rattle.fit.proofs.RanksLaws.{some-listed, all-listed}
 use Rattle.fit.proofs.ranks.held.Statement.{statement}
 use Rattle.fit.proofs.ranks.held.Tie as tie
-use Rattle.fit.proofs.ranks.held.Reads as reads
-use Rattle.fit.proofs.ranks.held.Lts as lts
 
--- src/ranks.rt:22:1
 returns : tie.Need-returns
 returns c =
     let s = c .before .before in
     some-listed (s .args .f .items) (s .args .f .count) 80 (sized 80 (s .args .f .items) (s .good .0 .1 .1 .0 .1 .0 .1)) (c .if1 .taken)
 
--- src/ranks.rt:22:1
 returns-2 : tie.Need-returns-2
 returns-2 c =
     let s = c .before .before in

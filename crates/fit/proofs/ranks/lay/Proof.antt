@@ -1,3 +1,4 @@
+-- Assumes nothing.
 use native.Mathlib.Omega.{arith}
 use lib.ListN.{length-take}
 use mathlib.Core.Path.{sym}
@@ -7,50 +8,29 @@ use Rattle.fit.proofs.RanksLaws.{lays}
 use borrow.Author.Needs.{needs}
 use Rattle.fit.proofs.ranks.lay.Statement.{statement}
 use Rattle.fit.proofs.ranks.lay.Tie as tie
-use Rattle.fit.proofs.ranks.lay.Reads as reads
-use Rattle.fit.proofs.ranks.lay.Lts as lts
-use Rattle.fit.proofs.ranks.numbers.Reads as numbers-reads
-use Rattle.slopes.proofs.jacobian.Reads as jacobian-reads
 
--- src/ranks.rt:35:9
-numbers-requires : tie.Need-numbers-requires
-numbers-requires c κs = search needs
-
--- src/ranks.rt:40:40
 array-share-prefix-items : tie.Need-array-share-prefix-items
 array-share-prefix-items c =
     let k = c .before .before .before .before in
     let s = k .before .before .before .before .before in
     omega (arith, k .numbers .ensures .0, length-take (s .args .f .equations .count) (s .args .f .equations .items))
 
--- src/ranks.rt:40:40
 slice-aggregate-jacobian : tie.Need-slice-aggregate-jacobian
 slice-aggregate-jacobian c =
     let k = c .before .before .before .before .before in
     let s = k .before .before .before .before .before in
     front (k .numbers .result) (s .args .f .equations .items) (omega (arith, k .numbers .ensures .0, length-take (s .args .f .equations .count) (s .args .f .equations .items)))
 
--- src/ranks.rt:40:53
 slice-aggregate-jacobian-2 : tie.Need-slice-aggregate-jacobian-2
 slice-aggregate-jacobian-2 c =
     let s = c .before .before .before .before .before .before .before .before .before .before .before in
     sym (sized 40 (s .args .f .places) (s .good .1 .0 .1 .1 .1 .1 .1 .0 .1 .0 .1))
 
--- src/ranks.rt:40:62
 slice-aggregate-jacobian-3 : tie.Need-slice-aggregate-jacobian-3
 slice-aggregate-jacobian-3 c =
     let s = c .before .before .before .before .before .before .before .before .before .before .before .before in
     sym (sized 80 (s .args .f .columns) (s .good .1 .0 .1 .1 .1 .1 .1 .1 .0 .1 .0 .1))
 
--- src/ranks.rt:40:5
-jacobian-requires : tie.Need-jacobian-requires
-jacobian-requires c κs = search needs
-
--- src/ranks.rt:29:1
-same-length : tie.Need-same-length
-same-length c = search needs
-
--- src/ranks.rt:29:1
 returns : tie.Need-returns
 returns c =
     let j = c .before .before in
@@ -63,11 +43,11 @@ pub lay-spec : {M : Type 1} → statement M
 lay-spec =
     tie.close
     (tie.spec
-    numbers-requires
+    (λ c κs. search needs)
     array-share-prefix-items
     slice-aggregate-jacobian
     slice-aggregate-jacobian-2
     slice-aggregate-jacobian-3
-    jacobian-requires
-    same-length
+    (λ c κs. search needs)
+    (λ c. search needs)
     returns)

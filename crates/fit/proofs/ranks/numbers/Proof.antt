@@ -1,17 +1,14 @@
+-- Assumes nothing.
 use Rattle.members.proofs.Sized.{sized}
 use Rattle.fit.proofs.RanksLaws.{some-listed, all-listed}
 use Rattle.fit.proofs.ranks.numbers.Statement.{statement}
 use Rattle.fit.proofs.ranks.numbers.Tie as tie
-use Rattle.fit.proofs.ranks.numbers.Reads as reads
-use Rattle.fit.proofs.ranks.numbers.Lts as lts
 
--- src/ranks.rt:16:1
 returns : tie.Need-returns
 returns c =
     let s = c .before .before in
     some-listed (s .args .l .items) (s .args .l .count) 40 (sized 40 (s .args .l .items) (s .good .0 .1 .1 .0 .1 .0 .1)) (c .if1 .taken)
 
--- src/ranks.rt:16:1
 returns-2 : tie.Need-returns-2
 returns-2 c =
     let s = c .before .before in

@@ -1,3 +1,4 @@
+-- Assumes nothing.
 use Prim.Native.Nat.{_*_}
 use lib.ListN.{length}
 use Rattle.loops.specs.Parts.{front}
@@ -6,86 +7,49 @@ use Rattle.fit.proofs.RanksLaws.{ranks}
 use borrow.Author.Needs.{needs}
 use Rattle.fit.proofs.ranks.rank.Statement.{statement}
 use Rattle.fit.proofs.ranks.rank.Tie as tie
-use Rattle.fit.proofs.ranks.rank.Reads as reads
-use Rattle.fit.proofs.ranks.rank.Lts as lts
-use Rattle.floats.proofs.clear.Reads as clear-reads
-use Rattle.nullspace.proofs.null_space.Reads as null-space-reads
 
--- src/ranks.rt:48:16
 mul-size : tie.Need-mul-size
 mul-size c =
     let s = c .before .before .before in
     table-fits (s .args .rows) (s .args .nf) (s .pre .0) (s .pre .1)
 
--- src/ranks.rt:49:18
 mul-square : tie.Need-mul-square
 mul-square c =
     let s = c .before .before .before in
     table-fits (s .args .nf) (s .args .nf) (s .pre .1) (s .pre .1)
 
--- src/ranks.rt:50:35
 slice-reshare-prefix-null-space : tie.Need-slice-reshare-prefix-null-space
 slice-reshare-prefix-null-space c =
     let s = c .before .before .before in
     fits-in (s .args .rows) (s .args .nf) (length (s .args .p .now)) (s .pre .0) (s .pre .1) (s .pre .2)
 
--- src/ranks.rt:50:35
 slice-aggregate-null-space : tie.Need-slice-aggregate-null-space
 slice-aggregate-null-space c =
     let s = c .before .before .before .before in
     front (s .args .rows * s .args .nf) (s .args .p .now) (fits-in (s .args .rows) (s .args .nf) (length (s .args .p .now)) (s .pre .0) (s .pre .1) (s .pre .2))
 
--- src/ranks.rt:50:9
-null-space-requires : tie.Need-null-space-requires
-null-space-requires c κs = search needs
-
--- src/ranks.rt:51:19
 slice-relend-prefix-clear : tie.Need-slice-relend-prefix-clear
 slice-relend-prefix-clear c =
     let s = c .before .before .before .before .before .before .before .before .before .before .before in
     fits-in (s .args .rows) (s .args .nf) (length (s .args .p .now)) (s .pre .0) (s .pre .1) (s .pre .2)
 
--- src/ranks.rt:51:19
 slice-aggregate-clear : tie.Need-slice-aggregate-clear
 slice-aggregate-clear c =
     let s = c .before .before .before .before .before .before .before .before .before .before .before .before in
     front (s .args .rows * s .args .nf) (s .args .p .now) (fits-in (s .args .rows) (s .args .nf) (length (s .args .p .now)) (s .pre .0) (s .pre .1) (s .pre .2))
 
--- src/ranks.rt:51:5
-clear-requires : tie.Need-clear-requires
-clear-requires c κs = search needs
-
--- src/ranks.rt:52:19
 slice-relend-prefix-clear-2 : tie.Need-slice-relend-prefix-clear-2
 slice-relend-prefix-clear-2 c =
     let o = c .before .before .before .before .before .before .before .before in
     let s = o .before .before .before .before .before .before .before in
     rw (o .null-space .kept .1 .1 .1 .1 .0) (fits-in (s .args .nf) (s .args .nf) (length (s .args .r .now)) (s .pre .1) (s .pre .1) (s .pre .4))
 
--- src/ranks.rt:52:19
 slice-aggregate-clear-2 : tie.Need-slice-aggregate-clear-2
 slice-aggregate-clear-2 c =
     let o = c .before .before .before .before .before .before .before .before .before in
     let s = o .before .before .before .before .before .before .before in
     front (s .args .nf * s .args .nf) (o .null-space .last .1 .1 .1 .1 .0) (rw (o .null-space .kept .1 .1 .1 .1 .0) (fits-in (s .args .nf) (s .args .nf) (length (s .args .r .now)) (s .pre .1) (s .pre .1) (s .pre .4)))
 
--- src/ranks.rt:52:5
-clear-requires-2 : tie.Need-clear-requires-2
-clear-requires-2 c κs = search needs
-
--- src/ranks.rt:44:1
-same-length : tie.Need-same-length
-same-length c = search needs
-
--- src/ranks.rt:44:1
-same-length-2 : tie.Need-same-length-2
-same-length-2 c = search needs
-
--- src/ranks.rt:44:1
-same-length-3 : tie.Need-same-length-3
-same-length-3 c = search needs
-
--- src/ranks.rt:44:1
 returns : tie.Need-returns
 returns c =
     let w = c .before .before in
@@ -104,14 +68,14 @@ rank-spec =
     mul-square
     slice-reshare-prefix-null-space
     slice-aggregate-null-space
-    null-space-requires
+    (λ c κs. search needs)
     slice-relend-prefix-clear
     slice-aggregate-clear
-    clear-requires
+    (λ c κs. search needs)
     slice-relend-prefix-clear-2
     slice-aggregate-clear-2
-    clear-requires-2
-    same-length
-    same-length-2
-    same-length-3
+    (λ c κs. search needs)
+    (λ c. search needs)
+    (λ c. search needs)
+    (λ c. search needs)
     returns)
