@@ -1,6 +1,6 @@
 // The suspects of a group that fails.
-ghost use mathlib.Core.Path.{_≡_};
 ghost use mathlib.Core.Bool.{false};
+ghost use mathlib.Core.Path.{_≡_};
 ghost use lib.ListN.{set};
 ghost use Rattle.fit.specs.Fits.{Marks, Suspects, Tests, short, convergedBy};
 use crate::Frame;
@@ -34,6 +34,7 @@ fn suspect(b: Build, f: Frame, k: usize, p: &mut [f64], q: &mut [f64], r: &mut [
     converged(s)
 }
 
+// No equation has a number past the marks.
 fn put(marks: &mut [bool], k: usize, suspected: bool)
     ensures { λ _. ⌜ now (marks .exit) ≡ set (now (marks .entry)) k suspected ⌝ }
 {
@@ -42,6 +43,7 @@ fn put(marks: &mut [bool], k: usize, suspected: bool)
     }
 }
 
+// The frame's equations, rising.
 fn each(b: Build, f: Frame, p: &mut [f64], q: &mut [f64], r: &mut [f64]) -> [bool; 40]
     requires { ⌜ short (now p) (now q) (now r) ≡ false ⌝ }
     ensures { λ t. ⌜ Suspects b f (now (p .entry)) (now (q .entry)) (now (r .entry)) (now (p .exit)) (now (q .exit)) (now (r .exit)) t ⌝ }

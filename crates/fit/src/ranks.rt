@@ -53,6 +53,7 @@ fn rank(rows: usize, nf: usize, p: &mut [f64], q: &mut [f64], r: &mut [f64]) -> 
     s
 }
 
+// Nothing is left where k is not below n.
 fn less(n: usize, k: usize) -> usize
     ensures { λ r. ⌜ r ≡ n - k ⌝ }
 {

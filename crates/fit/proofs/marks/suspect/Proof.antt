@@ -1,3 +1,4 @@
+-- Assumes nothing.
 use Rattle.fit.proofs.MarksLaws.{tests}
 use borrow.Author.Needs.{needs}
 use Rattle.fit.proofs.marks.suspect.Statement.{statement}

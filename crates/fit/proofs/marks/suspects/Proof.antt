@@ -1,3 +1,4 @@
+-- Assumes nothing.
 use Rattle.fit.proofs.MarksLaws.{unmarked, marks-all}
 use borrow.Author.Needs.{needs}
 use Rattle.fit.proofs.marks.suspects.Statement.{statement}

@@ -1,3 +1,4 @@
+-- Assumes nothing.
 use borrow.Author.Needs.{needs}
 use Rattle.fit.proofs.ranks.freed.Statement.{statement}
 use Rattle.fit.proofs.ranks.freed.Tie as tie

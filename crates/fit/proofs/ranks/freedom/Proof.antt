@@ -1,3 +1,4 @@
+-- Assumes nothing.
 use lib.ListN.{length}
 use Rattle.rounds.proofs.Begins.{none-short}
 use Rattle.fit.proofs.RanksLaws.{refused, frees}

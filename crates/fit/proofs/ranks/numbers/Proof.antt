@@ -1,3 +1,4 @@
+-- Assumes nothing.
 use Rattle.members.proofs.Sized.{sized}
 use Rattle.fit.proofs.RanksLaws.{some-listed, all-listed}
 use Rattle.fit.proofs.ranks.numbers.Statement.{statement}

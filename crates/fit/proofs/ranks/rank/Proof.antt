@@ -1,3 +1,4 @@
+-- Assumes nothing.
 use Prim.Native.Nat.{_*_}
 use lib.ListN.{length}
 use Rattle.loops.specs.Parts.{front}
