@@ -1,12 +1,12 @@
 -- equations.rs, `fit`, `freedom` and `conflicts`, of a group that is set out: what each comes to, and what each call leaves in the
 -- lent areas, for every input.
-use Prim.Native.Nat.{ℕ, _-_, _*_}
+use Prim.Native.Nat.{ℕ, _-_, _*_, _≤_}
 use mathlib.Core.Bool.{Bool, true, false, cond, _||_}
 use mathlib.Core.List.{List, _++_}
 use mathlib.Core.Path.{_≡_}
 use lib.Dec.{ltb}
 use lib.Ieee.{Float}
-use lib.ListN.{length, set, replicate}
+use lib.ListN.{length, take, drop, set, replicate}
 use Rattle.floats.specs.Only.{only-answer}
 use Rattle.floats.specs.Ops.{zero⁺}
 use Rattle.loops.specs.Turns.{fold}
@@ -15,6 +15,7 @@ use Rattle.members.specs.Movable.{indicesOf}
 use Rattle.members.specs.declared.Listed.{Listed}
 use Rattle.nullspace.specs.Promise.{decomposedOf}
 use Rattle.nullspace.specs.Steps.{rankOf}
+use Rattle.nullspace.specs.declared.NullSpace.{NullSpace}
 use Rattle.rounds.specs.Problem.{rowCount, valuesAt, jacobianAt}
 use Rattle.rounds.specs.Promise.{outcomeOf, zeroed, saying}
 use Rattle.rounds.specs.Solve.{Outcome, converged, failed}
@@ -96,6 +97,25 @@ pub record Frees (b : Build) (f : Frame) (x p q r p′ q′ r′ : List Float) (
   pub work : q′ ≡ cond (short p q r) q (cond (overRows b f) q (zeroed (wide b f (numbersOf (f .equations))) q))
   pub basis : r′ ≡ cond (short p q r) r (zeroed (length (indicesOf (f .free)) * length (indicesOf (f .free))) r)
 
+-- the gradients at the head of an area, and how many rows they are
+pub record Lays (b : Build) (f : Frame) (nf : ℕ) (x p p′ : List Float) (rows : ℕ) : Type 0 where
+  pub counted : rows ≡ rowCount (b .equations) (numbersOf (f .equations))
+  pub few : rows ≤ 80
+  pub long : length (gradientsOf b f x) ≡ rows * nf
+  pub laid : p′ ≡ gradientsOf b f x ++ drop (rows * nf) p
+
+-- the rank of the matrix of `rows` rows and `n` columns at the head of p
+pub record Ranks (rows n : ℕ) (p q r p′ q′ r′ : List Float) (s : NullSpace) : Type 0 where
+  pub answer : s ≡ cond (ltb 64 rows) NullSpace.TooMany (NullSpace.Rank (rankOf (decomposedOf rows n (take (rows * n) p))))
+  pub matrix : p′ ≡ zeroed (rows * n) p
+  pub work : q′ ≡ cond (ltb 64 rows) q (zeroed (rows * n) q)
+  pub basis : r′ ≡ zeroed (n * n) r
+
+abbrev pub freedBy : ℕ → NullSpace → Degrees
+freedBy n (NullSpace.Rank k) = Degrees.Of (n - k)
+freedBy n NullSpace.TooMany = Degrees.TooMany
+freedBy n NullSpace.TooShort = Degrees.TooShort
+
 -- ---- the suspects: `conflicts`
 
 abbrev pub converges : Outcome → Bool
@@ -122,6 +142,25 @@ jacobianLeft b f p k = zeroed (wide b f (withouts b f k)) p
 
 unfoldable pub productLeft : Build → Frame → List Float → ℕ → List Float
 productLeft b f q k = zeroed (square b (withouts b f k)) q
+
+abbrev pub convergedBy : Ending → Bool
+convergedBy Converged = true
+convergedBy Failed = false
+convergedBy TooMany = false
+convergedBy TooShort = false
+
+-- the fit without equation k, and without each in turn, in areas that are long enough
+pub record Tests (b : Build) (f : Frame) (k : ℕ) (p q r p′ q′ r′ : List Float) (t : Bool) : Type 0 where
+  pub answer : t ≡ suspect b f k
+  pub jacobian : p′ ≡ jacobianLeft b f p k
+  pub product : q′ ≡ productLeft b f q k
+  pub copy : r′ ≡ productLeft b f r k
+
+pub record Suspects (b : Build) (f : Frame) (p q r p′ q′ r′ : List Float) (t : List Bool) : Type 0 where
+  pub answer : t ≡ suspectsOf b f
+  pub jacobian : p′ ≡ fold (jacobianLeft b f) p (numbersOf (f .equations))
+  pub product : q′ ≡ fold (productLeft b f) q (numbersOf (f .equations))
+  pub copy : r′ ≡ fold (productLeft b f) r (numbersOf (f .equations))
 
 pub record Marks (b : Build) (f : Frame) (p q r p′ q′ r′ : List Float) (t : Marked) : Type 0 where
   pub answer : t ≡ cond (short p q r) (record { short = true; marks = replicate 40 false }) (record { short = false; marks = suspectsOf b f })

@@ -1,0 +1,102 @@
+-- Document 01, demand 3, of two builds: a group's fit depends on its own part of the build alone. It is said over the definitions of
+-- the fit, each given the whole build and the group's number, and proved of any two builds, whether or not they pass the checks before
+-- the fit: `own-part-alone` (proofs/Theorem.antt). specs/Examples.antt has two builds that share a group and little else.
+use Prim.Native.Nat.{ℕ}
+use mathlib.Core.Bool.{Bool}
+use mathlib.Core.List.{List, [], _∷_, List·Memᴰ}
+use mathlib.Core.Path.{_≡_}
+use lib.Ieee.{Float}
+use lib.ListN.{length, getD}
+use Rattle.groups.specs.Chains.{pointsIn, equationsIn}
+use Rattle.groups.specs.Listed.{groupsOf}
+use Rattle.groups.specs.Touches.{touchedBy}
+use Rattle.groups.specs.declared.Grouping.{Grouping}
+use Rattle.members.specs.Movable.{nowhere}
+use Rattle.rounds.specs.Solve.{Outcome}
+use Rattle.rows.specs.Column.{equationAt}
+use Rattle.sketch.specs.Involved.{lineAt}
+use Rattle.sketch.specs.Parts.{equationsOf}
+use Rattle.sketch.specs.declared.Build.{Build}
+use Rattle.sketch.specs.declared.Equation.{Equation}
+use Rattle.sketch.specs.declared.LineNo.{LineNo}
+use Rattle.fit.specs.Fits.{outcomeIn, worstOf, freedomOf, suspectsOf}
+use Rattle.fit.specs.Frames.{frameOf}
+use Rattle.fit.specs.declared.Frame.{Frame}
+
+-- ---- a group of a build
+
+abbrev pub groupingOf : Build → Grouping
+groupingOf b = groupsOf (touchedBy b) (length (equationsOf b))
+
+-- the points and the equations of group g, by number
+abbrev pub pointsOfGroup : Build → ℕ → List ℕ
+pointsOfGroup b g = pointsIn (groupingOf b) g
+
+abbrev pub equationsOfGroup : Build → ℕ → List ℕ
+equationsOfGroup b g = equationsIn (groupingOf b) g
+
+-- group g set out for its fit
+abbrev pub frameOfGroup : Build → ℕ → Frame
+frameOfGroup b g = frameOf (b .points) (groupingOf b) g
+
+-- its fit with all its equations: converged or failed, the coordinates, the iterations and the tries
+abbrev pub fitOfGroup : Build → ℕ → Outcome
+fitOfGroup b g = outcomeIn b (frameOfGroup b g) (equationsOfGroup b g)
+
+-- its freedom and its largest residual magnitude at given coordinates, and its suspects
+abbrev pub freedomOfGroup : Build → ℕ → List Float → ℕ
+freedomOfGroup b g x = freedomOf b (frameOfGroup b g) x
+
+abbrev pub worstOfGroup : Build → ℕ → List Float → Float
+worstOfGroup b g x = worstOf b (frameOfGroup b g) x
+
+abbrev pub suspectsOfGroup : Build → ℕ → List Bool
+suspectsOfGroup b g = suspectsOf b (frameOfGroup b g)
+
+-- ---- what two builds share
+
+-- equations.rs, `Eq`: the lines that an equation names
+abbrev pub linesNamed : Equation → List LineNo
+linesNamed (Equation.Coincident a b) = []
+linesNamed (Equation.Level a b axis) = []
+linesNamed (Equation.Parallel i j) = i ∷ j ∷ []
+linesNamed (Equation.Perpendicular i j) = i ∷ j ∷ []
+linesNamed (Equation.Collinear i j) = i ∷ j ∷ []
+linesNamed (Equation.Equal i j) = i ∷ j ∷ []
+linesNamed Equation.Held = []
+linesNamed (Equation.Distance a b value) = []
+linesNamed (Equation.AxisDistance a b axis value side) = []
+linesNamed (Equation.Length l value) = l ∷ []
+linesNamed (Equation.PointLine p l value side) = l ∷ []
+linesNamed (Equation.ArcEnds c f t) = []
+linesNamed (Equation.Radius c f value) = []
+linesNamed (Equation.LineCircle l c rad side) = l ∷ []
+linesNamed (Equation.CircleCircle c₁ r₁ c₂ r₂ contact) = []
+linesNamed (Equation.LineArcAt l c p) = l ∷ []
+linesNamed (Equation.ArcArcAt c₁ c₂ p) = []
+linesNamed (Equation.Midpoint p l) = l ∷ []
+linesNamed (Equation.ArcMidpoint p c f t) = []
+linesNamed (Equation.Symmetric p q l) = l ∷ []
+linesNamed (Equation.EqualRadius c₁ f₁ c₂ f₂) = []
+
+-- Group g of b is group g′ of b′: its points and its equations have the same numbers in both, and under these numbers stand the same
+-- points, the same equations and the same ends of the lines that these equations name. Nothing is said of anything else in the two builds.
+pub record SharesGroup (b b′ : Build) (g g′ : ℕ) : Type 0 where
+  pub centre : b .centre ≡ b′ .centre
+  pub size : b .size ≡ b′ .size
+  pub listed-points : pointsOfGroup b g ≡ pointsOfGroup b′ g′
+  pub listed-equations : equationsOfGroup b g ≡ equationsOfGroup b′ g′
+  pub points : (p : ℕ) → List·Memᴰ p (pointsOfGroup b g) → getD (b .points) p nowhere ≡ getD (b′ .points) p nowhere
+  pub equations : (k : ℕ) → List·Memᴰ k (equationsOfGroup b g) → equationAt (b .equations) k ≡ equationAt (b′ .equations) k
+  pub lines : (k : ℕ) → List·Memᴰ k (equationsOfGroup b g) → (l : LineNo) → List·Memᴰ l (linesNamed (equationAt (b .equations) k))
+      → lineAt (b .lines) l ≡ lineAt (b′ .lines) l
+
+-- ---- and what they then agree on
+
+pub record FitsAlike (b b′ : Build) (g g′ : ℕ) : Type 0 where
+  -- outcome, coordinates, iterations and tries
+  pub fit : fitOfGroup b g ≡ fitOfGroup b′ g′
+  -- at whatever coordinates, so at those of the fit
+  pub freedom : (x : List Float) → freedomOfGroup b g x ≡ freedomOfGroup b′ g′ x
+  pub worst : (x : List Float) → worstOfGroup b g x ≡ worstOfGroup b′ g′ x
+  pub suspects : suspectsOfGroup b g ≡ suspectsOfGroup b′ g′
