@@ -1,0 +1,58 @@
+-- From what the calls at a job's end promise to its own promise. Assumes nothing.
+use Prim.Native.Nat.{ℕ, _≤_, min}
+use mathlib.Core.Bool.{true, false}
+use mathlib.Core.List.{List}
+use mathlib.Core.Path.{_≡_, _∙_}
+use lib.Dec.{lit≤}
+use lib.Ieee.{Float}
+use lib.ListN.{length, take}
+use lib.Seq.{length-take-le}
+use Rattle.answer.specs.Endings.{refusedOf, failedOf}
+use Rattle.answer.specs.declared.Answer.{Answer}
+use Rattle.fit.specs.Fits.{Marks, short}
+use Rattle.fit.specs.Frames.{frameOf}
+use Rattle.fit.specs.declared.Frame.{Frame}
+use Rattle.fit.specs.declared.Marked.{Marked}
+use Rattle.groups.specs.declared.Grouping.{Grouping}
+use Rattle.rounds.specs.Promise.{zeroed}
+use Rattle.sketch.specs.declared.Build.{Build}
+use Rattle.sketch.specs.declared.Checked.the-variants.{Passes, Ends}
+use Rattle.sketch.specs.declared.Ending.{Ending}
+use Rattle.job.specs.Groups.{fits, fails, resultOf, lowestOf, groupsFrom, begin, answerBy, outputBy, groupingOf, fitOf}
+use Rattle.job.specs.Promise.{verdict, Does}
+use Rattle.job.specs.declared.Went.{Went}
+
+pub failing-is : (b : Build) (gr : Grouping) (g i t : ℕ) (f : Frame) (low : ℕ) (m : Marked) (p q r p′ q′ r′ : List Float) (a : Answer) → f ≡ frameOf (b .points) gr g
+    → short p q r ≡ false → Marks b f p q r p′ q′ r′ m → low ≡ lowestOf f → a ≡ failedOf (record { lowest = low; freedom = 0; iterations = i; tries = t }) (m .marks)
+    → a ≡ answerBy b gr (fails g i t)
+failing-is b gr g i t f low m p q r p′ q′ r′ a ef room em el ea = ea ∙ rw (el, em .answer, room, ← ef)
+
+-- how the groups went
+module _ (b : Build) (gr : Grouping) (n : ℕ) (w : Went) (e : gr ≡ groupingOf b) (m : n ≡ min (gr .count) 40) (h : resultOf w ≡ groupsFrom b gr n 0 (begin b)) where
+  came : resultOf w ≡ fitOf b
+  unfolding fitOf
+  came = h ∙ rw (m, e)
+
+  pub ended-failing : (a : Answer) (out : List Float) → w .failed ≡ true → a ≡ answerBy b gr (fails (w .group) (w .iterations) (w .tries))
+      → (a ≡ answerBy b (groupingOf b) (fitOf b)) × (out ≡ outputBy b (groupingOf b) (fitOf b) out)
+  ended-failing a out f q =
+      let g : fails (w .group) (w .iterations) (w .tries) ≡ fitOf b = rw f at came in
+      (rw (← g, ← e) q, rw (← g))
+
+  pub ended-fitted : (a : Answer) (out out′ : List Float) → w .failed ≡ false → a ≡ answerBy b gr (fits (w .doing)) → out′ ≡ outputBy b gr (fits (w .doing)) out
+      → (a ≡ answerBy b (groupingOf b) (fitOf b)) × (out′ ≡ outputBy b (groupingOf b) (fitOf b) out)
+  ended-fitted a out out′ f q o =
+      let g : fits (w .doing) ≡ fitOf b = rw f at came in
+      (rw (← g, ← e) q, rw (← g) o)
+
+module _ (b : Build) (out p q r : List Float) where
+  pub does-refuse : (e : Ending) (a : Answer) → verdict b out p q r ≡ Ends e → a ≡ refusedOf e → Does b out p q r out p q r a
+  does-refuse e a v h = record { answer = rw v h; output = rw v; first = rw v; second = rw v; third = rw v }
+
+  pub does-fit : (out′ p′ q′ r′ : List Float) (a : Answer) → verdict b out p q r ≡ Passes → a ≡ answerBy b (groupingOf b) (fitOf b)
+      → out′ ≡ outputBy b (groupingOf b) (fitOf b) out → p′ ≡ zeroed 8192 p → q′ ≡ zeroed 8192 q → r′ ≡ zeroed 8192 r → Does b out p q r out′ p′ q′ r′ a
+  does-fit out′ p′ q′ r′ a v h o ep eq er = record { answer = rw v h; output = rw v o; first = rw v ep; second = rw v eq; third = rw v er }
+
+-- a lent front of 8,192 places has the room that a fit takes
+pub long : (a : List Float) → 8192 ≤ length a → 6400 ≤ length (take 8192 a)
+long a h = rw (length-take-le 8192 a h) (lit≤ tt)

@@ -1,0 +1,17 @@
+-- From what the calls promise to the definitions.
+--     Laying     the loops over the points
+--     Refusing   the order of the refusals, and what a build that passes has
+--     Freeing    the freedom of a group and of the points in no group
+--     Stepping   one group, and the groups one after another
+--     Handing    what is handed out
+--     Ending     the answers
+--     Few        there are at most 40 groups
+--     Theorem    each number exactly when its row says
+pub mod Laying
+pub mod Refusing
+pub mod Freeing
+pub mod Stepping
+pub mod Handing
+pub mod Ending
+pub mod Few
+pub mod Theorem

@@ -1,0 +1,74 @@
+-- The order of the refusals, and what a build that passes them all has. Assumes nothing.
+use Prim.Native.Nat.{ℕ, _+_, _*_, _≤_}
+use mathlib.Core.Bool.{Bool, true, false, cond, _||_}
+use mathlib.Core.Path.{_≡_, refl}
+use native.Mathlib.Omega.{arith}
+use borrow.Author.Tests.{ltb-false}
+use lib.Dec.{ltb}
+use mir.Syntax.{w64}
+use mir.Val.{Fits}
+use Rattle.sketch.proofs.Within.{within}
+use Rattle.sketch.specs.Check.{overBound, checkOf}
+use Rattle.sketch.specs.declared.Build.{Build}
+use Rattle.sketch.specs.declared.Checked.{Checked}
+use Rattle.sketch.specs.declared.Checked.the-variants.{Passes, Ends}
+use Rattle.sketch.specs.declared.Ending.the-variants.{TooMany, TooShort}
+use Rattle.job.specs.Promise.{noRoom, verdictOf}
+
+-- two numbers for each point, and one for each measure
+pub twice-fits : (b : Build) → overBound b ≡ false → Fits w64 (2 * b .«point_count»)
+twice-fits b h = let n = within b h .0 in record { fits = omega arith }
+
+pub output-fits : (b : Build) → overBound b ≡ false → Fits w64 (2 * b .«point_count» + b .«measure_count»)
+output-fits b h = let n = within b h in record { fits = omega (arith, n .0, n .3) }
+
+module _ (b : Build) (out p q r : ℕ) where
+  pub verdict-many : overBound b ≡ true → Ends TooMany ≡ verdictOf b out p q r
+  unfolding verdictOf
+  verdict-many h = rw h
+
+  pub verdict-short : overBound b ≡ false → noRoom b out p q r ≡ true → Ends TooShort ≡ verdictOf b out p q r
+  unfolding verdictOf
+  verdict-short h k = rw (h, k)
+
+  pub verdict-checked : (v : Checked) → overBound b ≡ false → noRoom b out p q r ≡ false → v ≡ checkOf b → v ≡ verdictOf b out p q r
+  unfolding verdictOf
+  verdict-checked v h k e = rw (h, k) e
+
+passed : (o n : Bool) (c : Checked) → cond o (Ends TooMany) (cond n (Ends TooShort) c) ≡ Passes → (o ≡ false) × (n ≡ false) × (c ≡ Passes)
+passed true n c h = (cc, cc, cc)
+passed false true c h = (cc, cc, cc)
+passed false false c h = (refl, refl, h)
+
+none : (o p q r : Bool) → o || p || q || r ≡ false → (o ≡ false) × (p ≡ false) × (q ≡ false) × (r ≡ false)
+none true p q r h = (cc, cc, cc, cc)
+none false true q r h = (cc, cc, cc, cc)
+none false false true r h = (cc, cc, cc, cc)
+none false false false r h = (refl, refl, refl, h)
+
+-- what a build that passes has, with what is lent
+pub record Room (b : Build) (out p q r : ℕ) : Type 0 where
+  pub points : b .«point_count» ≤ 40
+  pub measures : b .«measure_count» ≤ 20
+  pub output : 2 * b .«point_count» + b .«measure_count» ≤ out
+  pub first : 8192 ≤ p
+  pub second : 8192 ≤ q
+  pub third : 8192 ≤ r
+
+module _ (b : Build) (out p q r : ℕ) (h : verdictOf b out p q r ≡ Passes) where
+  steps : (overBound b ≡ false) × (noRoom b out p q r ≡ false) × (checkOf b ≡ Passes)
+  unfolding verdictOf
+  steps = passed (overBound b) (noRoom b out p q r) (checkOf b) h
+
+  pub room : Room b out p q r
+  room =
+      let w = within b (steps .0) in
+      let n = none (ltb out (2 * b .«point_count» + b .«measure_count»)) (ltb p 8192) (ltb q 8192) (ltb r 8192) (steps .1) in
+      record {
+        points = w .0;
+        measures = w .3;
+        output = ltb-false out _ (n .0);
+        first = ltb-false p 8192 (n .1);
+        second = ltb-false q 8192 (n .2);
+        third = ltb-false r 8192 (n .3);
+      }

@@ -1,0 +1,86 @@
+-- One group, and the groups one after another. Assumes nothing.
+use Prim.Native.Nat.{ℕ, suc, _+_, _-_, _≤_, _<_}
+use mathlib.Core.Bool.{Bool, true, false}
+use mathlib.Core.List.{List}
+use mathlib.Core.Path.{_≡_, sym, ap, _∙_}
+use native.Mathlib.Omega.{arith}
+use lib.Ieee.{Float}
+use lib.ListN.{length, set}
+use Rattle.fit.specs.Fits.{Fits, short, outcomeIn, fittedBy, convergedBy, worstOf}
+use Rattle.fit.specs.Frames.{frameOf, startIn}
+use Rattle.fit.specs.declared.Fitted.{Fitted}
+use Rattle.fit.specs.declared.Frame.{Frame}
+use Rattle.floats.specs.Magnitude.{maxOf}
+use Rattle.groups.specs.declared.Grouping.{Grouping}
+use Rattle.members.specs.Lists.{numbersOf}
+use Rattle.members.specs.Scale.{unscaleOf}
+use Rattle.rounds.specs.Solve.{Outcome, converged, failed}
+use Rattle.sketch.specs.declared.Build.{Build}
+use Rattle.job.specs.Groups.{Result, fits, fails, resultOf, lowestOf, freedomIn, takenOf, stepBy, stepOf, groupsFrom, begin}
+use Rattle.job.specs.declared.Doing.{Doing}
+use Rattle.job.specs.declared.Went.{Went}
+
+-- ---- what is taken over from a fit
+
+pub taken-is : (b : Build) (f : Frame) (g : ℕ) (x : List Float) (i t : ℕ) (d : Doing) (points : List Float) (n low : ℕ) (w m : Float) → n ≡ freedomIn b f x
+    → w ≡ worstOf b f x → points ≡ unscaleOf (b .points) (b .centre) (b .size) (numbersOf (f .points)) x (d .points) → low ≡ lowestOf f → m ≡ maxOf (d .worst) w
+    → record { points = points; freedom = d .freedom + n; worst = m; groups = set (d .groups) g (record { lowest = low; freedom = n; iterations = i; tries = t }) }
+    ≡ takenOf b f g x i t d
+unfolding takenOf
+taken-is b f g x i t d points n low w m en ew ep el em = rw (ep, em, ew, el, en)
+
+-- ---- one group
+
+failed-by : (b : Build) (f : Frame) (g : ℕ) (d : Doing) (n : ℕ) (o : Outcome) (t : Fitted) → t ≡ fittedBy n o → convergedBy (t .solved .ending) ≡ false
+    → fails g (t .solved .iterations) (t .solved .tries) ≡ stepBy b f g d o
+failed-by b f g d n (converged x i k) t e h = let z : _≡_ {A = Bool} true false = rw e at h in cc
+failed-by b f g d n (failed i k) t e h = rw e
+
+converged-by : (b : Build) (f : Frame) (g : ℕ) (d d′ : Doing) (o : Outcome) (t : Fitted) → t ≡ fittedBy (length (startIn b f)) o → convergedBy (t .solved .ending) ≡ true
+    → d′ ≡ takenOf b f g (t .x) (t .solved .iterations) (t .solved .tries) d → fits d′ ≡ stepBy b f g d o
+converged-by b f g d d′ (converged x i k) t e h q = ap fits (rw e at q)
+converged-by b f g d d′ (failed i k) t e h q = let z : _≡_ {A = Bool} false true = rw e at h in cc
+
+module _ (b : Build) (gr : Grouping) (g : ℕ) (d : Doing) (f : Frame) (t : Fitted) (p q r p′ q′ r′ : List Float) (c : Bool) (set-out : f ≡ frameOf (b .points) gr g)
+    (room : short p q r ≡ false) (e : Fits b f (f .equations) p q r p′ q′ r′ t) (k : c ≡ convergedBy (t .solved .ending)) where
+  pub one-failed : c ≡ false → fails g (t .solved .iterations) (t .solved .tries) ≡ stepOf b gr g d
+  unfolding stepOf
+  one-failed h = rw (← set-out) (failed-by b f g d (length (startIn b f)) (outcomeIn b f (numbersOf (f .equations))) t (e .answer ∙ rw room) (sym k ∙ h))
+
+  pub one-converged : (d′ : Doing) → c ≡ true → d′ ≡ takenOf b f g (t .x) (t .solved .iterations) (t .solved .tries) d → fits d′ ≡ stepOf b gr g d
+  unfolding stepOf
+  one-converged d′ h q = rw (← set-out) (converged-by b f g d d′ (outcomeIn b f (numbersOf (f .equations))) t (e .answer ∙ rw room) (sym k ∙ h) q)
+
+-- ---- the groups
+
+module _ (b : Build) (gr : Grouping) where
+  from-next : (m k g : ℕ) (d d′ : Doing) → m ≡ suc k → stepOf b gr g d ≡ fits d′ → groupsFrom b gr m g d ≡ groupsFrom b gr k (g + 1) d′
+  unfolding groupsFrom
+  from-next m k g d d′ e s = rw (e, s)
+
+  from-stop : (m k g i j l : ℕ) (d : Doing) → m ≡ suc k → stepOf b gr g d ≡ fails i j l → groupsFrom b gr m g d ≡ fails i j l
+  unfolding groupsFrom
+  from-stop m k g i j l d e s = rw (e, s)
+
+  from-done : (m g : ℕ) (d : Doing) → m ≡ 0 → groupsFrom b gr m g d ≡ fits d
+  unfolding groupsFrom
+  from-done m g d e = rw e
+
+  module _ (n g : ℕ) (d : Doing) (R : Result) (r : groupsFrom b gr (n - g) g d ≡ R) where
+    pub groups-next : (w : Went) → g < n → w .failed ≡ false → resultOf w ≡ stepOf b gr g d → groupsFrom b gr (n - (g + 1)) (g + 1) (w .doing) ≡ R
+    groups-next w h c s = sym (from-next (n - g) (n - (g + 1)) g d (w .doing) (omega arith) (sym (rw c at s))) ∙ r
+
+    pub groups-stop : (w : Went) → g < n → w .failed ≡ true → resultOf w ≡ stepOf b gr g d → resultOf w ≡ R
+    groups-stop w h c s =
+        let stopped : stepOf b gr g d ≡ fails (w .group) (w .iterations) (w .tries) = sym (rw c at s) in
+        rw c (sym (from-stop (n - g) (n - (g + 1)) g (w .group) (w .iterations) (w .tries) d (omega arith) stopped) ∙ r)
+
+    pub groups-done : n ≤ g → fits d ≡ R
+    groups-done h = sym (from-done (n - g) g d (omega arith)) ∙ r
+
+  pub groups-begin : (n : ℕ) (d : Doing) → d ≡ begin b → groupsFrom b gr (n - 0) 0 d ≡ groupsFrom b gr n 0 (begin b)
+  groups-begin n d e = let z : n - 0 ≡ n = omega arith in rw (e, z)
+
+pub begin-free : (b : Build) (d : Doing) → d ≡ begin b → d .freedom ≡ 0
+unfolding begin
+begin-free b d e = rw e

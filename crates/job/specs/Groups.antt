@@ -1,0 +1,126 @@
+-- lib.rs, `solve_group` and the loop of `solve` over the groups, over the whole build: each group is fitted by itself, in rising
+-- order, until one does not converge. The fit, freedom, worst and suspects of a group are the room `fit`'s.
+use Prim.Native.Nat.{ℕ, zero, suc, _+_, _*_, min}
+use mathlib.Core.Bool.{Bool, cond, not, _&&_}
+use mathlib.Core.List.{List}
+use lib.Dec.{eqb}
+use lib.Ieee.{Float}
+use lib.ListN.{length, getD, set, replicate}
+use Rattle.answer.specs.Endings.{blankGroup, failedOf, fittedOf}
+use Rattle.answer.specs.declared.Answer.{Answer}
+use Rattle.fit.specs.Fits.{outcomeIn, padded, worstOf, freedomOf, overRows, suspectsOf}
+use Rattle.fit.specs.Frames.{frameOf, startIn}
+use Rattle.fit.specs.declared.Frame.{Frame}
+use Rattle.fit.specs.declared.Degrees.{Degrees}
+use Rattle.floats.specs.Magnitude.{maxOf}
+use Rattle.floats.specs.Ops.{zero⁺}
+use Rattle.groups.specs.Listed.{groupsOf}
+use Rattle.groups.specs.Touches.{touchedBy}
+use Rattle.groups.specs.declared.Grouping.{Grouping}
+use Rattle.loops.specs.Turns.{upTo}
+use Rattle.members.specs.Lists.{numbersOf}
+use Rattle.members.specs.Movable.{fixedOf, nowhere}
+use Rattle.members.specs.Scale.{unscaleOf}
+use Rattle.rounds.specs.Solve.{Outcome, converged, failed}
+use Rattle.sketch.specs.Parts.{equationsOf}
+use Rattle.sketch.specs.declared.Build.{Build}
+use Rattle.sketch.specs.declared.Point.{Point}
+use Rattle.job.specs.Points.{drawn, handedOut}
+use Rattle.job.specs.declared.Doing.{Doing}
+use Rattle.job.specs.declared.Went.{Went}
+
+-- what the groups come to: all are fitted, or one does not converge, after so many iterations and tries
+pub data Result : Type 0 where
+  fits : Doing → Result
+  fails : ℕ → ℕ → ℕ → Result
+
+abbrev pub followed : Result → (Doing → Result) → Result
+followed (fits d) k = k d
+followed (fails g i t) k = fails g i t
+
+-- as the code holds it
+abbrev pub resultOf : Went → Result
+resultOf w = cond (w .failed) (fails (w .group) (w .iterations) (w .tries)) (fits (w .doing))
+
+-- the lowest point of a group: its first
+abbrev pub lowestOf : Frame → ℕ
+lowestOf f = getD (f .points .items) 0 0
+
+-- what a call for the freedom came to, as a number
+abbrev pub countOf : Degrees → ℕ
+countOf (Degrees.Of n) = n
+countOf Degrees.TooMany = 0
+countOf Degrees.TooShort = 0
+
+-- the freedom of a group, of which no build that passes the check has more than 64 rows; with more it counts none
+abbrev pub freedomIn : Build → Frame → List Float → ℕ
+freedomIn b f x = cond (overRows b f) 0 (freedomOf b f x)
+
+-- `Ok(GroupResult { points: eq.unscale(g, &x), dof, free })` and what `solve` does with it, of group g, which is set out as f
+unfoldable pub takenOf : Build → Frame → ℕ → List Float → ℕ → ℕ → Doing → Doing
+takenOf b f g x i t d = record {
+  points = unscaleOf (b .points) (b .centre) (b .size) (numbersOf (f .points)) x (d .points);
+  freedom = d .freedom + freedomIn b f x;
+  worst = maxOf (d .worst) (worstOf b f x);
+  groups = set (d .groups) g (record { lowest = lowestOf f; freedom = freedomIn b f x; iterations = i; tries = t });
+}
+
+-- `match fitted`; the coordinates of a fit stand at the head of 80 places
+abbrev pub stepBy : Build → Frame → ℕ → Doing → Outcome → Result
+stepBy b f g d (converged x i t) = fits (takenOf b f g (padded (length (startIn b f)) x) i t d)
+stepBy b f g d (failed i t) = fails g i t
+
+-- free, and in no group
+abbrev pub looseIn : List Point → List ℕ → ℕ → Bool
+looseIn points of p = eqb (getD of p 0) 40 && not (fixedOf (getD points p nowhere))
+
+unfoldable pub looseAt : List Point → List ℕ → ℕ → ℕ → ℕ
+looseAt points of p n = cond (looseIn points of p) (n + 1) n
+
+-- how many of the first n points are
+unfoldable pub looseOf : List Point → List ℕ → ℕ → ℕ
+looseOf points of n = upTo n 0 (looseAt points of) 0
+
+module _ (b : Build) (gr : Grouping) where
+  abbrev pub frameIn : ℕ → Frame
+  frameIn g = frameOf (b .points) gr g
+
+  -- `eq.fit(g, &g.constraints)`
+  abbrev pub outcomeAt : ℕ → Outcome
+  outcomeAt g = outcomeIn b (frameIn g) (numbersOf (frameIn g .equations))
+
+  unfoldable pub stepOf : ℕ → Doing → Result
+  stepOf g d = stepBy b (frameIn g) g d (outcomeAt g)
+
+  -- the k groups from g on
+  unfoldable pub groupsFrom : ℕ → ℕ → Doing → Result
+  groupsFrom zero g d = fits d
+  groupsFrom (suc k) g d = followed (stepOf g d) (groupsFrom k (g + 1))
+
+  -- of 40 groups at most, and there are no more (proofs/Few.antt)
+  abbrev pub groupCount : ℕ
+  groupCount = min (gr .count) 40
+
+  -- `eq.unconstrained.len()`
+  abbrev pub looseCount : ℕ
+  looseCount = looseOf (b .points) (gr .«of_point») (b .«point_count»)
+
+  abbrev pub answerBy : Result → Answer
+  answerBy (fits d) = fittedOf groupCount (d .groups) (d .freedom + 2 * looseCount) (d .worst)
+  answerBy (fails g i t) = failedOf (record { lowest = lowestOf (frameIn g); freedom = 0; iterations = i; tries = t }) (suspectsOf b (frameIn g))
+
+  abbrev pub outputBy : Result → List Float → List Float
+  outputBy (fits d) out = handedOut b (d .points) out
+  outputBy (fails g i t) out = out
+
+-- before the first group
+unfoldable pub begin : Build → Doing
+begin b = record { points = drawn (b .points); freedom = 0; worst = zero⁺; groups = replicate 40 blankGroup }
+
+-- the groups of a build
+abbrev pub groupingOf : Build → Grouping
+groupingOf b = groupsOf (touchedBy b) (length (equationsOf b))
+
+-- and what they come to
+unfoldable pub fitOf : Build → Result
+fitOf b = groupsFrom b (groupingOf b) (groupCount b (groupingOf b)) 0 (begin b)

@@ -1,0 +1,61 @@
+-- What a job answers and leaves in each lent place, for every input (document 01, "The numbers a job ends in"): numbers 3, 9, 4, 5
+-- and 6 in this order, which return only themselves and change nothing lent; then 7 or 0.
+use Prim.Native.Nat.{ℕ, _+_, _*_}
+use mathlib.Core.Bool.{Bool, cond, _||_}
+use mathlib.Core.List.{List}
+use mathlib.Core.Path.{_≡_}
+use lib.Dec.{ltb}
+use lib.Ieee.{Float}
+use lib.ListN.{length}
+use Rattle.answer.specs.Endings.{refusedOf}
+use Rattle.answer.specs.declared.Answer.{Answer}
+use Rattle.floats.specs.Only.{only-answer}
+use Rattle.rounds.specs.Promise.{zeroed}
+use Rattle.sketch.specs.Check.{overBound, checkOf}
+use Rattle.sketch.specs.declared.Build.{Build}
+use Rattle.sketch.specs.declared.Checked.{Checked}
+use Rattle.sketch.specs.declared.Checked.the-variants.{Passes, Ends}
+use Rattle.sketch.specs.declared.Ending.the-variants.{TooMany, TooShort}
+use Rattle.job.specs.Groups.{groupingOf, fitOf, answerBy, outputBy}
+
+-- 9: output shorter than two numbers per point plus one per measure, or any of three work areas shorter than 8,192
+abbrev pub noRoom : Build → ℕ → ℕ → ℕ → ℕ → Bool
+noRoom b out p q r = ltb out (2 * b .«point_count» + b .«measure_count») || ltb p 8192 || ltb q 8192 || ltb r 8192
+
+-- 3 before 9 before the rest of the check
+unfoldable pub verdictOf : Build → ℕ → ℕ → ℕ → ℕ → Checked
+verdictOf b out p q r = cond (overBound b) (Ends TooMany) (cond (noRoom b out p q r) (Ends TooShort) (checkOf b))
+
+abbrev pub answerAfter : Build → Checked → Answer
+answerAfter b (Ends e) = refusedOf e
+answerAfter b Passes = answerBy b (groupingOf b) (fitOf b)
+
+abbrev pub outputAfter : Build → List Float → Checked → List Float
+outputAfter b out (Ends e) = out
+outputAfter b out Passes = outputBy b (groupingOf b) (fitOf b) out
+
+abbrev pub areaAfter : List Float → Checked → List Float
+areaAfter p (Ends e) = p
+areaAfter p Passes = zeroed 8192 p
+
+module _ (b : Build) (out p q r : List Float) where
+  abbrev pub verdict : Checked
+  verdict = verdictOf b (length out) (length p) (length q) (length r)
+
+  pub record Does (out′ p′ q′ r′ : List Float) (a : Answer) : Type 0 where
+    pub answer : a ≡ answerAfter b verdict
+    pub output : out′ ≡ outputAfter b out verdict
+    pub first : p′ ≡ areaAfter p verdict
+    pub second : q′ ≡ areaAfter q verdict
+    pub third : r′ ≡ areaAfter r verdict
+
+  -- no second answer, and no other content of a lent place, meets the promise
+  pub only-one : {out₁ p₁ q₁ r₁ out₂ p₂ q₂ r₂ : List Float} {a₁ a₂ : Answer} → Does out₁ p₁ q₁ r₁ a₁ → Does out₂ p₂ q₂ r₂ a₂
+      → (a₁ ≡ a₂) × (out₁ ≡ out₂) × (p₁ ≡ p₂) × (q₁ ≡ q₂) × (r₁ ≡ r₂)
+  only-one m n = (
+    only-answer (m .answer) (n .answer),
+    only-answer (m .output) (n .output),
+    only-answer (m .first) (n .first),
+    only-answer (m .second) (n .second),
+    only-answer (m .third) (n .third),
+  )

@@ -1,0 +1,35 @@
+// What a job ends in before its fit, in document 01's order: 3, 9, then the rest of the check.
+ghost use mathlib.Core.Path.{_≡_};
+ghost use mathlib.Core.Bool.{false};
+ghost use Rattle.job.specs.Promise.{noRoom, verdictOf};
+ghost use Rattle.sketch.specs.Check.{overBound};
+use sketch::Build;
+use sketch::Checked;
+use sketch::Ending;
+
+fn counts_over(b: Build) -> bool
+    ensures { λ r. ⌜ r ≡ overBound b ⌝ }
+{
+    (b.point_count > 40) | (b.line_count > 40) | (b.equation_count > 40) | (b.measure_count > 20)
+}
+
+// Whether the output or an area is too short.
+fn no_room(b: Build, out: usize, p: usize, q: usize, r: usize) -> bool
+    requires { ⌜ overBound b ≡ false ⌝ }
+    ensures { λ t. ⌜ t ≡ noRoom b out p q r ⌝ }
+{
+    (out < 2 * b.point_count + b.measure_count) | (p < 8192) | (q < 8192) | (r < 8192)
+}
+
+// The numbers are the lengths of what is lent.
+pub(crate) fn verdict(b: Build, out: usize, p: usize, q: usize, r: usize) -> Checked
+    ensures { λ v. ⌜ v ≡ verdictOf b out p q r ⌝ }
+{
+    if counts_over(b) {
+        return Checked::Ends(Ending::TooMany);
+    }
+    if no_room(b, out, p, q, r) {
+        return Checked::Ends(Ending::TooShort);
+    }
+    sketch::check(b)
+}
