@@ -16,9 +16,18 @@ fn shown(s: Solved, x: [f64; 80]) -> Fitted
     let ending = s.ending;
     match ending {
         Ending::Converged => Fitted { solved: s, x },
-        Ending::Failed => Fitted { solved: s, x: [0.0; 80] },
-        Ending::TooMany => Fitted { solved: s, x: [0.0; 80] },
-        Ending::TooShort => Fitted { solved: s, x: [0.0; 80] },
+        Ending::Failed => Fitted {
+            solved: s,
+            x: [0.0; 80],
+        },
+        Ending::TooMany => Fitted {
+            solved: s,
+            x: [0.0; 80],
+        },
+        Ending::TooShort => Fitted {
+            solved: s,
+            x: [0.0; 80],
+        },
     }
 }
 
@@ -29,7 +38,14 @@ fn smaller(a: usize, b: usize) -> usize
 }
 
 // The fit of the frame with the chosen equations.
-pub fn fit(b: Build, f: Frame, chosen: Listed, p: &mut [f64], q: &mut [f64], r: &mut [f64]) -> Fitted
+pub fn fit(
+    b: Build,
+    f: Frame,
+    chosen: Listed,
+    p: &mut [f64],
+    q: &mut [f64],
+    r: &mut [f64],
+) -> Fitted
     ensures { λ t. ⌜ Fits b f chosen (now (p .entry)) (now (q .entry)) (now (r .entry)) (now (p .exit)) (now (q .exit)) (now (r .exit)) t ⌝ }
 {
     let points = b.points;

@@ -131,7 +131,6 @@ returns c =
     (x .start .last .1 .1 .1 .1 .0) (o .solve .last .1 .1 .1 .1 .1 .1 .0) (k1 .smaller .result) (k2 .smaller2 .result) (k3 .smaller3 .result) (o .solve .result) (t .shown .result) l n m (k1 .smaller .ensures)
     (k2 .smaller2 .ensures) (k3 .smaller3 .ensures) (x .start .ensures) (o .solve .ensures) (t .shown .ensures)
 
-
 pub fit-spec : {M : Type 1} → statement M
 fit-spec =
     tie.close
