@@ -3,7 +3,7 @@
 use Prim.Native.Nat.{ℕ, suc, _+_, _≤_, _<_}
 use mathlib.Core.Bool.{Bool, true, false, cond}
 use mathlib.Core.List.{List, [], _∷_, map, List·Memᴰ, List·Memᴰ·head, List·Memᴰ·tail, List·Memᴰ·not-nil}
-use mathlib.Core.Path.{_≡_, refl, ap, sym, _∙_}
+use mathlib.Core.Path.{_≡_, refl, ap, _∙_}
 use native.Mathlib.Decide.{decLt}
 use native.Mathlib.Nat.{le-refl}
 use native.Mathlib.Omega.{arith}
@@ -16,7 +16,7 @@ use Rattle.fit.specs.Fits.{freedomOf, overRows}
 use Rattle.fit.specs.Frames.{frameOf}
 use Rattle.groups.proofs.Theorem.{groups-are-chains}
 use Rattle.groups.specs.Chains.{Touches, placesFrom, equationsIn}
-use Rattle.groups.specs.Touches.{number, held, touchedIn, touchedBy}
+use Rattle.groups.specs.Touches.{number, held, touchedIn}
 use Rattle.loops.specs.Turns.{fold}
 use Rattle.members.specs.Lists.{numbersOf}
 use Rattle.rounds.specs.Problem.{moreRows, rowCount}
