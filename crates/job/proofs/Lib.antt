@@ -6,6 +6,7 @@
 --     Handing    what is handed out
 --     Ending     the answers
 --     Few        there are at most 40 groups
+--     Rowed      no group of a build that passes has more than 64 rows
 --     Theorem    each number exactly when its row says
 pub mod Laying
 pub mod Refusing
@@ -14,4 +15,5 @@ pub mod Stepping
 pub mod Handing
 pub mod Ending
 pub mod Few
+pub mod Rowed
 pub mod Theorem

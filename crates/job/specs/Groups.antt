@@ -52,7 +52,8 @@ countOf (Degrees.Of n) = n
 countOf Degrees.TooMany = 0
 countOf Degrees.TooShort = 0
 
--- the freedom of a group, of which no build that passes the check has more than 64 rows; with more it counts none
+-- the freedom of a group; with more than 64 rows it would count none, and no group of a build that passes the check has more
+-- (proofs/Rowed.antt)
 abbrev pub freedomIn : Build → Frame → List Float → ℕ
 freedomIn b f x = cond (overRows b f) 0 (freedomOf b f x)
 
