@@ -3,6 +3,7 @@
 //!     jobs          packed jobs in, packed replies out
 //!     time N        one job in: best of nine rounds of N runs, in ns
 //!     lent          holds one call to what it may and may not touch
+//!     nan           holds the NaN of a measure to its bits
 
 mod sakiromuk;
 
@@ -71,12 +72,22 @@ fn lent() {
     println!("6 same, 0 differ");
 }
 
+/// The distance of a point from a line of no length is a NaN, and the reply has its one spelling.
+fn nan() {
+    let text = b"points=1\nlines=1\nequations=0\nmeasures=1\ncentre=0000000000000000,0000000000000000\nsize=3ff0000000000000\n\
+        p=0000000000000000,0000000000000000,free\nl=0,0\nm=pointline,0,0,+\n";
+    let reply = b"status=0\ngroups=0\nfreedom=2\nworst=0000000000000000\nx=0000000000000000,0000000000000000\nm=7ff8000000000000\n";
+    assert_eq!(Fitter::new().run(text), reply, "a NaN is handed out as 7ff8000000000000");
+    println!("1 same, 0 differ");
+}
+
 fn main() {
     let words: Vec<String> = std::env::args().collect();
     match words.get(1).map(String::as_str) {
         Some("jobs") => jobs(),
         Some("time") => time(words[2].parse().expect("a count")),
         Some("lent") => lent(),
-        _ => panic!("jobs, time N or lent"),
+        Some("nan") => nan(),
+        _ => panic!("jobs, time N, lent or nan"),
     }
 }

@@ -5,7 +5,7 @@ pub const AREA: usize = 8192;
 /// No reply is longer.
 pub const REPLY: usize = 8192;
 
-extern "C" {
+unsafe extern "C" {
     fn sakiromuk_run(
         text: *const u8,
         text_len: usize,

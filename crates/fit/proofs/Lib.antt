@@ -4,3 +4,4 @@ pub mod Sets
 pub mod RanksLaws
 pub mod MarksLaws
 pub mod Theorem
+pub mod Handed

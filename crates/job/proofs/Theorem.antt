@@ -1,10 +1,10 @@
 -- Each of document 01's numbers that a job on a build ends in is given exactly when its own row of the table holds and no row before
 -- it does, in 01's order: 3, 9, 4, 5, 6, 7; 0 exactly when none does; and 1 and 2, which come from text, never. Where a group fails,
--- it is the lowest that does. Assumes nothing.
+-- it is the lowest that does. A job that is not fitted leaves its output as it was. Assumes nothing.
 use Prim.Native.Nat.{ℕ, zero, suc, _+_, _≤_, _<_}
 use mathlib.Core.Bool.{Bool, true, false, cond}
 use mathlib.Core.List.{List}
-use mathlib.Core.Logic.{_↔_}
+use mathlib.Core.Logic.{_↔_, _≢_}
 use mathlib.Core.Path.{_≡_, refl, sym, _∙_}
 use native.Mathlib.Decide.{decLt}
 use native.Mathlib.Omega.{arith}
@@ -21,8 +21,8 @@ use Rattle.sketch.specs.declared.Checked.the-variants.{Passes, Ends}
 use Rattle.sketch.specs.declared.Ending.{Ending}
 use Rattle.sketch.specs.declared.Ending.the-variants.{Fitted, TooLong, BadForm, TooMany, OutOfBounds, NoSuchItem, TooManyRows, NotConverged, TooShort}
 use Rattle.job.specs.Given.{endingOf, fitsAt, SomeFails, AllFit, Sound}
-use Rattle.job.specs.Groups.{Result, fits, fails, takenOf, outcomeAt, frameIn, stepOf, groupsFrom, groupCount, begin, groupingOf, fitOf, answerBy}
-use Rattle.job.specs.Promise.{noRoom, verdictOf, answerAfter}
+use Rattle.job.specs.Groups.{Result, fits, fails, takenOf, outcomeAt, frameIn, stepOf, groupsFrom, groupCount, begin, groupingOf, fitOf, answerBy, outputBy}
+use Rattle.job.specs.Promise.{noRoom, verdictOf, verdict, answerAfter, outputAfter}
 use Rattle.job.specs.declared.Doing.{Doing}
 use Rattle.job.proofs.Few.{all-counted}
 
@@ -203,6 +203,19 @@ module _ (b : Build) where
   after : (v : Checked) → answerAfter b v .ending ≡ ended v (fitOf b)
   after (Ends e) = refl
   after Passes = shown (fitOf b)
+
+  nothing-of : (out : List Float) (R : Result) → answerBy b (groupingOf b) R .ending ≢ Fitted → outputBy b (groupingOf b) R out ≡ out
+  nothing-of out (fits d) h = absurd (h refl)
+  nothing-of out (fails g i t) h = refl
+
+  nothing-after : (out : List Float) (v : Checked) → answerAfter b v .ending ≢ Fitted → outputAfter b out v ≡ out
+  nothing-after out (Ends e) h = refl
+  nothing-after out Passes h = nothing-of out (fitOf b) h
+
+  -- a job that is not fitted hands out nothing: its output is as it was
+  pub hands-out-nothing : (out p q r : List Float) → endingOf b (length out) (length p) (length q) (length r) ≢ Fitted
+      → outputAfter b out (verdict b out p q r) ≡ out
+  hands-out-nothing out p q r h = nothing-after out (verdict b out p q r) h
 
   -- the failing group is the lowest that does not converge, with its own counts
   pub lowest-fails : (j i t : ℕ) → fitOf b ≡ fails j i t

@@ -6,6 +6,7 @@
 --     Laid       bytes one after another in a lent slice, which the contracts inside are said by
 --     Short      how long a reply is at most
 --     ReadBack   what is spelled reads back
+--     Bare       a job that is not fitted prints no coordinates
 --     Cases      document 01's example and others, worked
 pub mod Figures
 pub mod Lines
@@ -14,4 +15,5 @@ pub mod Promise
 pub mod Laid
 pub mod Short
 pub mod ReadBack
+pub mod Bare
 pub mod Cases

@@ -12,6 +12,10 @@ use parts::whole_reply;
 pub fn write(a: Answer, points: usize, measures: usize, out: &[f64], reply: &mut [u8]) -> usize
     ensures { λ r. ⌜ Writes a (now (out .entry)) points measures (now (reply .entry)) (now (reply .exit)) r ⌝ }
 {
+    // No reply is longer, so that with this room it is laid at once.
+    if 8192 <= reply.len() {
+        return whole_reply(reply, a, points, measures, out);
+    }
     // Where there is no room, laying only counts.
     let mut none = [0u8; 0];
     let n = whole_reply(&mut none, a, points, measures, out);

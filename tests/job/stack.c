@@ -1,0 +1,76 @@
+/* The stack that a job takes. Packed jobs in; each runs in a thread of its own on a stack that is painted first, and what is no longer
+   paint afterwards was used. A thread that does nothing is taken off. */
+#include <pthread.h>
+#include <stdio.h>
+#include <stdlib.h>
+#include <string.h>
+
+#include "sakiromuk.h"
+
+#define STACK (1 << 20)
+#define PAINT 0xa5
+
+struct job {
+    uint8_t *text;
+    size_t length;
+    uint8_t reply[SAKIROMUK_REPLY];
+    size_t reply_length;
+    double p[SAKIROMUK_AREA], q[SAKIROMUK_AREA], r[SAKIROMUK_AREA];
+};
+
+static void fail(const char *words) {
+    fprintf(stderr, "stack: %s\n", words);
+    exit(1);
+}
+
+static void *run(void *data) {
+    struct job *job = data;
+    if (job)
+        job->reply_length = sakiromuk_run(job->text, job->length, job->reply, SAKIROMUK_REPLY, job->p, SAKIROMUK_AREA, job->q,
+                                          SAKIROMUK_AREA, job->r, SAKIROMUK_AREA);
+    return NULL;
+}
+
+/* How much of its stack a thread used: all above the lowest place that is no longer paint. */
+static size_t used(uint8_t *stack, struct job *job) {
+    pthread_attr_t attr;
+    pthread_t thread;
+    size_t low = 0;
+    memset(stack, PAINT, STACK);
+    if (pthread_attr_init(&attr) || pthread_attr_setstack(&attr, stack, STACK) || pthread_create(&thread, &attr, run, job))
+        fail("no thread");
+    if (pthread_join(thread, NULL))
+        fail("the thread did not end");
+    pthread_attr_destroy(&attr);
+    while (low < STACK && stack[low] == PAINT)
+        low++;
+    return STACK - low;
+}
+
+int main(void) {
+    uint8_t *stack = aligned_alloc(4096, STACK);
+    struct job *job = calloc(1, sizeof *job);
+    size_t most = 0, jobs = 0, idle;
+    if (!stack || !job)
+        fail("no room");
+    idle = used(stack, NULL);
+    while (scanf("%zu", &job->length) == 1) {
+        size_t n;
+        int c;
+        while ((c = getchar()) != '\n') /* a class may stand behind the length */
+            if (c == EOF)
+                fail("a length without a line's end");
+        job->text = malloc(job->length + 1);
+        if (!job->text || fread(job->text, 1, job->length, stdin) != job->length)
+            fail("a job is cut short");
+        n = used(stack, job) - idle;
+        if (job->reply_length < 9 || memcmp(job->reply, "status=", 7))
+            fail("no reply");
+        if (n > most)
+            most = n;
+        free(job->text);
+        jobs++;
+    }
+    printf("stack: at most %zu bytes, over %zu jobs\n", most, jobs);
+    return jobs == 0;
+}
