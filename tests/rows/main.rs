@@ -9,23 +9,7 @@ unsafe extern "C" {
     fn rows_jacobian(words: *const usize, words_len: usize, numbers: *const f64, numbers_len: usize, ends: *const usize, ends_len: usize, chosen: *const usize, chosen_len: usize, places: *const u8, places_len: usize, columns: *const u8, columns_len: usize, free: usize, x: *const f64, x_len: usize, j: *mut f64, j_len: usize, times: usize) -> usize;
 }
 
-/// Splitmix64.
-struct Chance(u64);
-
 impl Chance {
-    fn bits(&mut self) -> u64 {
-        self.0 = self.0.wrapping_add(0x9e37_79b9_7f4a_7c15);
-        let mut z = self.0;
-        z = (z ^ (z >> 30)).wrapping_mul(0xbf58_476d_1ce4_e5b9);
-        z = (z ^ (z >> 27)).wrapping_mul(0x94d0_49bb_1331_11eb);
-        z ^ (z >> 31)
-    }
-    fn below(&mut self, n: usize) -> usize {
-        (self.bits() % n as u64) as usize
-    }
-    fn unit(&mut self) -> f64 {
-        (self.bits() >> 11) as f64 / (1u64 << 52) as f64 - 1.0
-    }
     /// A number of the kind: any in the unit square, small whole ones, signed zeros, any bits.
     fn number(&mut self, kind: usize) -> f64 {
         match kind {

@@ -8,24 +8,7 @@ extern "C" {
     fn solver_null_space(m: *const f64, m_len: usize, rows: usize, n: usize, work: *mut f64, work_len: usize, out: *mut f64, out_len: usize) -> usize;
 }
 
-/// Splitmix64.
-struct Chance(u64);
-
 impl Chance {
-    fn bits(&mut self) -> u64 {
-        self.0 = self.0.wrapping_add(0x9e37_79b9_7f4a_7c15);
-        let mut z = self.0;
-        z = (z ^ (z >> 30)).wrapping_mul(0xbf58_476d_1ce4_e5b9);
-        z = (z ^ (z >> 27)).wrapping_mul(0x94d0_49bb_1331_11eb);
-        z ^ (z >> 31)
-    }
-    fn below(&mut self, n: usize) -> usize {
-        (self.bits() % n as u64) as usize
-    }
-    /// From -1 to 1.
-    fn unit(&mut self) -> f64 {
-        (self.bits() >> 11) as f64 / (1u64 << 52) as f64 - 1.0
-    }
     fn special(&mut self) -> f64 {
         [0.0, -0.0, f64::INFINITY, f64::NEG_INFINITY, f64::NAN, -f64::NAN, f64::from_bits(1), f64::MAX, f64::MIN_POSITIVE][self.below(9)]
     }
