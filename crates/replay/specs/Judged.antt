@@ -1,4 +1,5 @@
--- When a recorded reply is the reply to its text: `same-exactly`. Assumes nothing.
+-- How a recorded reply compares with what its text is answered here. Two lists of bytes are the same exactly when they are equal:
+-- `same-sound`, `same-itself`. Assumes nothing.
 use mathlib.Core.Bool.{Bool, true, false, _&&_}
 use mathlib.Core.List.{List, [], _∷_}
 use mathlib.Core.Path.{_≡_, refl, sym}
@@ -7,8 +8,12 @@ use borrow.Author.Tests.{eqb-true, eq-eqb}
 use lib.Dec.{eqb}
 use lib.Ieee.{Float}
 use lib.ListN.{replicate}
+use Rattle.calls.specs.Counts.{verdictOf, judgeOf}
+use Rattle.calls.specs.declared.Verdict.{Verdict}
 use Rattle.floats.specs.Ops.{zero⁺}
 use Rattle.run.specs.Promise.{replyTo}
+use Rattle.replay.specs.declared.judge.Pack.{Pack}
+use Rattle.replay.specs.declared.judge.Pack.the-variants.{Jobs, Calls}
 
 -- a work area
 abbrev pub area : List Float
@@ -23,6 +28,11 @@ sameBytes [] [] = true
 sameBytes [] (y ∷ b) = false
 sameBytes (x ∷ a) [] = false
 sameBytes (x ∷ a) (y ∷ b) = eqb x y && sameBytes a b
+
+-- a job by its whole reply, a call by the room `calls`
+abbrev pub verdictIn : Pack → List ℕ → List ℕ → Verdict
+verdictIn Jobs text recorded = verdictOf (sameBytes (answered text) recorded)
+verdictIn Calls text recorded = judgeOf text recorded
 
 pub both : (p q : Bool) → p && q ≡ true → (p ≡ true) × (q ≡ true)
 both true q h = (refl, h)

@@ -2,7 +2,7 @@
 use crate::tally::Tally;
 use libc::STDOUT_FILENO;
 
-pub(crate) fn bytes(w: &[u8]) {
+fn bytes(w: &[u8]) {
     io::write_all(STDOUT_FILENO, w);
 }
 
@@ -10,8 +10,16 @@ fn number(n: usize) {
     io::print_decimal(STDOUT_FILENO, n as u64);
 }
 
-pub(crate) fn differs(i: usize) {
-    bytes(b"record ");
+pub(crate) fn cannot(name: &[u8], path: &[u8], why: &[u8]) {
+    bytes(name);
+    bytes(b": ");
+    bytes(path);
+    bytes(why);
+}
+
+pub(crate) fn differs(name: &[u8], i: usize) {
+    bytes(name);
+    bytes(b": record ");
     number(i);
     bytes(b" differs\n");
 }
@@ -24,6 +32,11 @@ pub(crate) fn outcome(name: &[u8], t: Tally, len: usize) {
     bytes(b" same, ");
     number(t.differ);
     bytes(b" differ");
+    if 0 < t.left_out {
+        bytes(b", ");
+        number(t.left_out);
+        bytes(b" left out");
+    }
     if t.at < len {
         bytes(b", and no whole record at byte ");
         number(t.at);

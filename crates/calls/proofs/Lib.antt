@@ -1,0 +1,4 @@
+pub mod Laws
+pub mod Matrix
+pub mod Called
+pub mod Named

@@ -1,0 +1,5 @@
+pub mod Taking
+pub mod Saying
+pub mod Numbers
+pub mod Matrices
+pub mod Counts
