@@ -2,3 +2,4 @@ pub mod Laws
 pub mod Matrix
 pub mod Called
 pub mod Named
+pub mod Said

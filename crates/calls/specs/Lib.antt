@@ -3,3 +3,4 @@ pub mod Saying
 pub mod Numbers
 pub mod Matrices
 pub mod Counts
+pub mod Texts
