@@ -8,6 +8,7 @@ use Rattle.loops.specs.Picks.{pick-yes, pick-no}
 use Rattle.spelling.specs.Letters.{ascii}
 use Rattle.spelling.specs.declared.Cursor.{Cursor}
 use Rattle.calls.specs.Counts.{rowCall, eliminateCall, nullSpaceCall, verdictOf, judgeOf}
+use Rattle.calls.specs.Listing.{namedCall}
 use Rattle.calls.specs.Numbers.{start}
 use Rattle.calls.specs.Saying.{said}
 use Rattle.calls.specs.declared.Verdict.{Verdict}
@@ -43,7 +44,12 @@ module _ (text reply : List ℕ) where
   judged-5 v c1 c2 c3 c4 c5 e1 h1 e2 h2 e3 h3 e4 h4 e5 h5 same p q =
       pick-no _ _ _ _ (rw e1 at h1) (pick-no _ _ _ _ (rw e2 at h2) (pick-no _ _ _ _ (rw e3 at h3) (pick-no _ _ _ _ (rw e4 at h4) (pick-yes _ _ _ _ (rw e5 at h5) (rw (p, e5) at q)))))
 
-  pub judged-6 : (c1 c2 c3 c4 c5 : Cursor) → c1 ≡ after text "sqrt " → c1 .ok ≡ false → c2 ≡ after text "maxabs " → c2 .ok ≡ false → c3 ≡ after text "norm2 " → c3 .ok ≡ false → c4 ≡ after text "eliminate " → c4 .ok ≡ false → c5 ≡ after text "nullspace " → c5 .ok ≡ false → LeftOut ≡ judgeOf text reply
+  pub judged-6 : (v : Verdict) (c1 c2 c3 c4 c5 c6 : Cursor) → c1 ≡ after text "sqrt " → c1 .ok ≡ false → c2 ≡ after text "maxabs " → c2 .ok ≡ false → c3 ≡ after text "norm2 " → c3 .ok ≡ false → c4 ≡ after text "eliminate " → c4 .ok ≡ false → c5 ≡ after text "nullspace " → c5 .ok ≡ false → c6 ≡ after text "groups\n" → c6 .ok ≡ true → (same : Bool) → same ≡ namedCall text reply → v ≡ verdictOf same → v ≡ judgeOf text reply
   unfolding judgeOf
-  judged-6 c1 c2 c3 c4 c5 e1 h1 e2 h2 e3 h3 e4 h4 e5 h5 =
-      pick-no _ _ _ _ (rw e1 at h1) (pick-no _ _ _ _ (rw e2 at h2) (pick-no _ _ _ _ (rw e3 at h3) (pick-no _ _ _ _ (rw e4 at h4) (pick-no _ _ _ _ (rw e5 at h5) refl))))
+  judged-6 v c1 c2 c3 c4 c5 c6 e1 h1 e2 h2 e3 h3 e4 h4 e5 h5 e6 h6 same p q =
+      pick-no _ _ _ _ (rw e1 at h1) (pick-no _ _ _ _ (rw e2 at h2) (pick-no _ _ _ _ (rw e3 at h3) (pick-no _ _ _ _ (rw e4 at h4) (pick-no _ _ _ _ (rw e5 at h5) (pick-yes _ _ _ _ (rw e6 at h6) (rw p at q))))))
+
+  pub judged-7 : (c1 c2 c3 c4 c5 c6 : Cursor) → c1 ≡ after text "sqrt " → c1 .ok ≡ false → c2 ≡ after text "maxabs " → c2 .ok ≡ false → c3 ≡ after text "norm2 " → c3 .ok ≡ false → c4 ≡ after text "eliminate " → c4 .ok ≡ false → c5 ≡ after text "nullspace " → c5 .ok ≡ false → c6 ≡ after text "groups\n" → c6 .ok ≡ false → LeftOut ≡ judgeOf text reply
+  unfolding judgeOf
+  judged-7 c1 c2 c3 c4 c5 c6 e1 h1 e2 h2 e3 h3 e4 h4 e5 h5 e6 h6 =
+      pick-no _ _ _ _ (rw e1 at h1) (pick-no _ _ _ _ (rw e2 at h2) (pick-no _ _ _ _ (rw e3 at h3) (pick-no _ _ _ _ (rw e4 at h4) (pick-no _ _ _ _ (rw e5 at h5) (pick-no _ _ _ _ (rw e6 at h6) refl)))))

@@ -10,6 +10,7 @@ use Rattle.floats.specs.Ops.{zero⁺}
 use Rattle.spelling.specs.Letters.{ascii}
 use Rattle.spelling.specs.declared.Cursor.{Cursor}
 use Rattle.spelling.specs.declared.WholeRead.{WholeRead}
+use Rattle.calls.specs.Listing.{namedCall}
 use Rattle.calls.specs.Matrices.{eliminateSame, nullSpaceSame}
 use Rattle.calls.specs.Numbers.{start, sqrtSame, maxAbsSame, norm2Same}
 use Rattle.calls.specs.Saying.{said}
@@ -67,8 +68,10 @@ judgeOf text reply =
     let c₃ = said text start (ascii "norm2 ") in
     let c₄ = said text start (ascii "eliminate ") in
     let c₅ = said text start (ascii "nullspace ") in
+    let c₆ = said text start (ascii "groups\n") in
     cond (c₁ .ok) (verdictOf (rowCall Roots text c₁ reply))
     (cond (c₂ .ok) (verdictOf (rowCall Largest text c₂ reply))
     (cond (c₃ .ok) (verdictOf (rowCall Squares text c₃ reply))
     (cond (c₄ .ok) (verdictOf (eliminateCall text c₄ reply))
-    (cond (c₅ .ok) (verdictOf (nullSpaceCall text c₅ reply)) LeftOut))))
+    (cond (c₅ .ok) (verdictOf (nullSpaceCall text c₅ reply))
+    (cond (c₆ .ok) (verdictOf (namedCall text reply)) LeftOut)))))

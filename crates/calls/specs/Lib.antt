@@ -4,3 +4,4 @@ pub mod Numbers
 pub mod Matrices
 pub mod Counts
 pub mod Texts
+pub mod Listing

@@ -8,6 +8,7 @@ use crate::counts::Row;
 use crate::counts::eliminate_call;
 use crate::counts::null_space_call;
 use crate::counts::row_call;
+use crate::listing::groups_call;
 use spelling::Cursor;
 use spelling::word;
 
@@ -51,6 +52,10 @@ pub fn judge(text: &[u8], reply: &[u8]) -> Verdict
     let c = after(text, b"nullspace ");
     if c.ok {
         return verdict(null_space_call(text, c, reply));
+    }
+    let c = after(text, b"groups\n");
+    if c.ok {
+        return verdict(groups_call(text, reply));
     }
     Verdict::LeftOut
 }
