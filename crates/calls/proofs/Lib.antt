@@ -1,0 +1,6 @@
+pub mod Laws
+pub mod Matrix
+pub mod Called
+pub mod Named
+pub mod Said
+pub mod Grouped

@@ -1,0 +1,28 @@
+use borrow.Author.Needs.{needs}
+use Rattle.calls.proofs.matrices.spanned.Statement.{statement}
+use Rattle.calls.proofs.matrices.spanned.Tie as tie
+
+returns : tie.Need-returns
+returns c = rw (c .before .before .n .given .1) (c .rank .ensures)
+
+returns-2 : tie.Need-returns-2
+returns-2 c = rw (c .before .before .enum-told .given .1) (c .word .ensures)
+
+returns-3 : tie.Need-returns-3
+returns-3 c = rw (c .before .before .enum-told2 .given .1) (c .word2 .ensures)
+
+pub spanned-spec : {M : Type 1} → statement M
+spanned-spec =
+    tie.close
+    (tie.spec
+    (λ c. search needs)
+    (λ c κs. search needs)
+    (λ c. search needs)
+    (λ c. search needs)
+    (λ c κs. search needs)
+    (λ c. search needs)
+    (λ c. search needs)
+    (λ c κs. search needs)
+    returns
+    returns-2
+    returns-3)

@@ -1,0 +1,60 @@
+-- How a recorded reply compares with what its text is answered here. Two lists of bytes are the same exactly when they are equal:
+-- `same-sound`, `same-itself`. Assumes nothing.
+use mathlib.Core.Bool.{Bool, true, false, _&&_}
+use mathlib.Core.List.{List, [], _∷_}
+use mathlib.Core.Path.{_≡_, refl, sym}
+use Prim.Native.Nat.{ℕ}
+use borrow.Author.Tests.{eqb-true, eq-eqb}
+use lib.Dec.{eqb}
+use lib.Ieee.{Float}
+use lib.ListN.{replicate}
+use Rattle.calls.specs.Counts.{verdictOf, judgeOf}
+use Rattle.calls.specs.declared.Verdict.{Verdict}
+use Rattle.floats.specs.Ops.{zero⁺}
+use Rattle.run.specs.Promise.{replyTo}
+use Rattle.replay.specs.declared.judge.Pack.{Pack}
+use Rattle.replay.specs.declared.judge.Pack.the-variants.{Jobs, Calls}
+
+-- a work area
+abbrev pub area : List Float
+area = replicate 8192 zero⁺
+
+-- the reply to a job's text
+unfoldable pub answered : List ℕ → List ℕ
+answered text = replyTo area area area text
+
+unfoldable pub sameBytes : List ℕ → List ℕ → Bool
+sameBytes [] [] = true
+sameBytes [] (y ∷ b) = false
+sameBytes (x ∷ a) [] = false
+sameBytes (x ∷ a) (y ∷ b) = eqb x y && sameBytes a b
+
+-- a job by its whole reply, a call by the room `calls`
+abbrev pub verdictIn : Pack → List ℕ → List ℕ → Verdict
+verdictIn Jobs text recorded = verdictOf (sameBytes (answered text) recorded)
+verdictIn Calls text recorded = judgeOf text recorded
+
+pub both : (p q : Bool) → p && q ≡ true → (p ≡ true) × (q ≡ true)
+both true q h = (refl, h)
+both false q h = (h, cc)
+
+pub same-sound : (a b : List ℕ) → sameBytes a b ≡ true → a ≡ b
+unfolding sameBytes
+same-sound [] [] h = refl
+same-sound [] (y ∷ b) h = cc
+same-sound (x ∷ a) [] h = cc
+same-sound (x ∷ a) (y ∷ b) h = rw (eqb-true x y (both (eqb x y) (sameBytes a b) h .0), same-sound a b (both (eqb x y) (sameBytes a b) h .1))
+
+pub same-itself : (a : List ℕ) → sameBytes a a ≡ true
+unfolding sameBytes
+same-itself [] = refl
+same-itself (x ∷ a) = rw (eq-eqb x x refl) (same-itself a)
+
+-- what a test of two lists says if it is true for equal ones and for no others
+pub same-exactly : (r : Bool) (a b : List ℕ) → (r ≡ true → a ≡ b) → (a ≡ b → r ≡ true) → r ≡ sameBytes a b
+same-exactly true a b f g = rw (f refl) (sym (same-itself b))
+same-exactly false a b f g = unequal (sameBytes a b) refl
+  where
+    unequal : (t : Bool) → sameBytes a b ≡ t → false ≡ t
+    unequal true e = g (same-sound a b e)
+    unequal false e = refl

@@ -1,0 +1,42 @@
+// One record: whether its reply is the one that the text has.
+ghost use mathlib.Core.Path.{_≡_};
+ghost use Rattle.replay.specs.Judged.{sameBytes, answered, verdictIn};
+use calls::Verdict;
+
+// Which pack a record is from.
+pub enum Pack {
+    Jobs,
+    Calls,
+}
+
+// Whether `recorded` is the reply to the job `text`, to the last byte.
+fn is_reply(text: &[u8], recorded: &[u8]) -> bool
+    ensures { λ r. ⌜ r ≡ sameBytes (answered (now (text .entry))) (now (recorded .entry)) ⌝ }
+{
+    // No reply is longer.
+    let mut reply = [0u8; 8192];
+    let mut p = [0.0; 8192];
+    let mut q = [0.0; 8192];
+    let mut r = [0.0; 8192];
+    let n = run::run(text, &mut reply, &mut p, &mut q, &mut r);
+    if n <= 8192 {
+        check::same(&reply[..n], recorded)
+    } else {
+        false
+    }
+}
+
+pub(crate) fn judge(of: Pack, text: &[u8], recorded: &[u8]) -> Verdict
+    ensures { λ r. ⌜ r ≡ verdictIn of (now (text .entry)) (now (recorded .entry)) ⌝ }
+{
+    match of {
+        Pack::Calls => calls::judge(text, recorded),
+        Pack::Jobs => {
+            if is_reply(text, recorded) {
+                Verdict::Same
+            } else {
+                Verdict::Differs
+            }
+        }
+    }
+}

@@ -1,0 +1,45 @@
+// What the program says on standard output.
+use crate::tally::Tally;
+use libc::STDOUT_FILENO;
+
+fn bytes(w: &[u8]) {
+    io::write_all(STDOUT_FILENO, w);
+}
+
+fn number(n: usize) {
+    io::print_decimal(STDOUT_FILENO, n as u64);
+}
+
+pub(crate) fn cannot(name: &[u8], path: &[u8], why: &[u8]) {
+    bytes(name);
+    bytes(b": ");
+    bytes(path);
+    bytes(why);
+}
+
+pub(crate) fn differs(name: &[u8], i: usize) {
+    bytes(name);
+    bytes(b": record ");
+    number(i);
+    bytes(b" differs\n");
+}
+
+// The counts, and where the records end before the pack does, those words too: such a pack never reads as one that is the same.
+pub(crate) fn outcome(name: &[u8], t: Tally, len: usize) {
+    bytes(name);
+    bytes(b": ");
+    number(t.same);
+    bytes(b" same, ");
+    number(t.differ);
+    bytes(b" differ");
+    if 0 < t.left_out {
+        bytes(b", ");
+        number(t.left_out);
+        bytes(b" left out");
+    }
+    if t.at < len {
+        bytes(b", and no whole record at byte ");
+        number(t.at);
+    }
+    bytes(b"\n");
+}
