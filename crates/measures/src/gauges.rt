@@ -29,7 +29,12 @@ fn gauge(m: Measured, lines: [Line; 40], places: &[u8], x: &[f64], size: f64) ->
     ensures { λ r. ⌜ r ≡ gaugeOf lines (now (places .entry)) (now (x .entry)) size m ⌝ }
 {
     let measure = m.measure;
-    let v = rows::values(equation(measure), lines, places, x);
+    let e = equation(measure);
+    let named = rows::lines_of(e);
+    let first = rows::place_of(named.first);
+    let second = rows::place_of(named.second);
+    let ends = rows::ends_of(named, lines[first], lines[second]);
+    let v = rows::values(e, ends, places, x);
     floats::handed_out(v.first * size)
 }
 

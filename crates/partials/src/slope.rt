@@ -2,7 +2,8 @@
 ghost use mathlib.Core.Path.{_≡_};
 ghost use Rattle.floats.specs.Ops.{zero⁺};
 ghost use Rattle.partials.specs.Gradients.{gradientsOf};
-ghost use Rattle.rows.specs.Kinds.{nowhere, coincidentOf, levelOf, parallelOf, perpendicularOf, collinearOf, equalOf, distanceOf, axisDistanceOf, lengthOf, pointLineOf, arcEndsOf, radiusKindOf, lineCircleOf, circleCircleOf, lineArcAtOf, arcArcAtOf, midpointOf, arcMidpointOf, symmetricOf, equalRadiusOf, rowsOfEquation};
+ghost use Rattle.rows.specs.Ends.{rowsGiven};
+ghost use Rattle.rows.specs.Kinds.{nowhere, coincidentOf, levelOf, parallelOf, perpendicularOf, collinearOf, equalOf, distanceOf, axisDistanceOf, lengthOf, pointLineOf, arcEndsOf, radiusKindOf, lineCircleOf, circleCircleOf, lineArcAtOf, arcArcAtOf, midpointOf, arcMidpointOf, symmetricOf, equalRadiusOf};
 ghost use Rattle.rows.specs.Located.{atOf};
 use crate::answer::Gradients;
 use crate::shapes::against;
@@ -21,8 +22,8 @@ use crate::shapes::through_pull_radius;
 use crate::shapes::through2;
 use crate::shapes::two;
 use plane::Vec2;
+use rows::Ends;
 use rows::located::dir;
-use rows::located::line_at;
 use rows::located::middle;
 use rows::located::offset;
 use rows::located::toward;
@@ -261,36 +262,24 @@ fn equal_radius(
 }
 
 // The gradients of an equation's rows at the coordinates x.
-pub fn gradients(e: Equation, lines: [Line; 40], places: &[u8], x: &[f64]) -> Gradients
-    ensures { λ r. ⌜ r ≡ gradientsOf (rowsOfEquation lines (atOf (now (places .entry)) (now (x .entry))) e) ⌝ }
+pub fn gradients(e: Equation, ends: Ends, places: &[u8], x: &[f64]) -> Gradients
+    ensures { λ r. ⌜ r ≡ gradientsOf (rowsGiven ends (atOf (now (places .entry)) (now (x .entry))) e) ⌝ }
 {
     match e {
         Equation::Coincident(a, b) => coincident(a, b),
         Equation::Level(a, b, axis) => level(a, b, axis),
-        Equation::Parallel(i, j) => parallel(places, x, line_at(lines, i), line_at(lines, j)),
-        Equation::Perpendicular(i, j) => perpendicular(
-            places,
-            x,
-            line_at(lines, i),
-            line_at(lines, j),
-        ),
-        Equation::Collinear(i, j) => collinear(places, x, line_at(lines, i), line_at(lines, j)),
-        Equation::Equal(i, j) => equal(places, x, line_at(lines, i), line_at(lines, j)),
+        Equation::Parallel(_, _) => parallel(places, x, ends.first, ends.second),
+        Equation::Perpendicular(_, _) => perpendicular(places, x, ends.first, ends.second),
+        Equation::Collinear(_, _) => collinear(places, x, ends.first, ends.second),
+        Equation::Equal(_, _) => equal(places, x, ends.first, ends.second),
         Equation::Held => none(),
         Equation::Distance(a, b, _) => distance(places, x, a, b),
         Equation::AxisDistance(a, b, axis, _, side) => axis_distance(a, b, axis, side),
-        Equation::Length(l, _) => length(places, x, line_at(lines, l)),
-        Equation::PointLine(p, l, _, side) => point_line(places, x, p, line_at(lines, l), side),
+        Equation::Length(_, _) => length(places, x, ends.first),
+        Equation::PointLine(p, _, _, side) => point_line(places, x, p, ends.first, side),
         Equation::ArcEnds(c, f, t) => arc_ends(places, x, c, f, t),
         Equation::Radius(c, f, _) => radius(places, x, c, f),
-        Equation::LineCircle(l, c, rad, side) => line_circle(
-            places,
-            x,
-            line_at(lines, l),
-            c,
-            rad,
-            side,
-        ),
+        Equation::LineCircle(_, c, rad, side) => line_circle(places, x, ends.first, c, rad, side),
         Equation::CircleCircle(c1, r1, c2, r2, contact) => circle_circle(
             places,
             x,
@@ -300,11 +289,11 @@ pub fn gradients(e: Equation, lines: [Line; 40], places: &[u8], x: &[f64]) -> Gr
             r2,
             contact,
         ),
-        Equation::LineArcAt(l, c, p) => line_arc_at(places, x, line_at(lines, l), c, p),
+        Equation::LineArcAt(_, c, p) => line_arc_at(places, x, ends.first, c, p),
         Equation::ArcArcAt(c1, c2, p) => arc_arc_at(places, x, c1, c2, p),
-        Equation::Midpoint(p, l) => midpoint(p, line_at(lines, l)),
+        Equation::Midpoint(p, _) => midpoint(p, ends.first),
         Equation::ArcMidpoint(p, c, f, t) => arc_midpoint(places, x, p, c, f, t),
-        Equation::Symmetric(p, q, l) => symmetric(places, x, p, q, line_at(lines, l)),
+        Equation::Symmetric(p, q, _) => symmetric(places, x, p, q, ends.first),
         Equation::EqualRadius(c1, f1, c2, f2) => equal_radius(places, x, c1, f1, c2, f2),
     }
 }

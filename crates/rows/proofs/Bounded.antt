@@ -5,10 +5,10 @@ use lib.Dec.{lit≤}
 use lib.ListN.{length, getD}
 use Rattle.plane.specs.declared.Vec2.{Vec2}
 use Rattle.sketch.specs.declared.Equation.{Equation}
-use Rattle.sketch.specs.declared.Line.{Line}
 use Rattle.sketch.specs.declared.PointNo.{PointNo}
 use Rattle.sketch.specs.declared.Rad.{Rad}
 use Rattle.rows.specs.Entries.{Row, noRow}
+use Rattle.rows.specs.Ends.{rowsGiven}
 use Rattle.rows.specs.Kinds.{
   coincidentOf,
   levelOf,
@@ -30,18 +30,18 @@ use Rattle.rows.specs.Kinds.{
   arcMidpointOf,
   symmetricOf,
   equalRadiusOf,
-  rowsOfEquation,
 }
+use Rattle.rows.specs.declared.Ends.{Ends}
 
 pub record Bounded (rs : List Row) : Type 0 where
   pub rows : length rs ≤ 2
   pub first : length (getD rs 0 noRow .entries) ≤ 6
   pub second : length (getD rs 1 noRow .entries) ≤ 6
 
-module _ (ls : List Line) (at : PointNo → Vec2) where
-  pub bounded : (e : Equation) → Bounded (rowsOfEquation ls at e)
+module _ (ends : Ends) (at : PointNo → Vec2) where
+  pub bounded : (e : Equation) → Bounded (rowsGiven ends at e)
   unfolding
-      rowsOfEquation coincidentOf levelOf parallelOf perpendicularOf collinearOf equalOf distanceOf axisDistanceOf lengthOf pointLineOf
+      rowsGiven coincidentOf levelOf parallelOf perpendicularOf collinearOf equalOf distanceOf axisDistanceOf lengthOf pointLineOf
       arcEndsOf radiusKindOf lineCircleOf circleCircleOf lineArcAtOf arcArcAtOf midpointOf arcMidpointOf symmetricOf equalRadiusOf
   bounded (Equation.Coincident a b) = record { rows = lit≤ tt; first = lit≤ tt; second = lit≤ tt }
   bounded (Equation.Level a b axis) = record { rows = lit≤ tt; first = lit≤ tt; second = lit≤ tt }

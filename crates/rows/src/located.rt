@@ -2,7 +2,6 @@
 ghost use mathlib.Core.Path.{_≡_};
 ghost use Prim.Native.Nat.{_<_};
 ghost use Rattle.plane.specs.Vectors.{subOf, unitFromOf};
-ghost use Rattle.sketch.specs.Involved.{lineAt};
 ghost use Rattle.rows.specs.Kinds.{middleOf};
 ghost use Rattle.rows.specs.Located.{localOf, atOf, dirOf};
 use crate::vectors::plus_vec;
@@ -10,23 +9,7 @@ use crate::vectors::times_vec;
 use plane::Dir;
 use plane::Vec2;
 use sketch::Line;
-use sketch::LineNo;
 use sketch::PointNo;
-
-// A line's ends, and point 0 twice where there is no such line.
-pub fn line_at(lines: [Line; 40], l: LineNo) -> Line
-    ensures { λ r. ⌜ r ≡ lineAt lines l ⌝ }
-{
-    let at = l.0;
-    if at < 40 {
-        lines[at]
-    } else {
-        Line {
-            from: PointNo(0),
-            to: PointNo(0),
-        }
-    }
-}
 
 // A byte of a table as a number.
 pub fn wide(k: u8) -> usize

@@ -2,13 +2,14 @@
 ghost use mathlib.Core.Path.{_≡_};
 ghost use mathlib.Core.List.{[], _∷_};
 ghost use Rattle.rows.specs.Entries.{valuesOf, emit};
-ghost use Rattle.rows.specs.Kinds.{radiusOf, coincidentOf, levelOf, parallelOf, perpendicularOf, collinearOf, equalOf, distanceOf, axisDistanceOf, lengthOf, pointLineOf, arcEndsOf, radiusKindOf, lineCircleOf, circleCircleOf, lineArcAtOf, arcArcAtOf, midpointOf, arcMidpointOf, symmetricOf, equalRadiusOf, rowsOfEquation};
+ghost use Rattle.rows.specs.Ends.{rowsGiven};
+ghost use Rattle.rows.specs.Kinds.{radiusOf, coincidentOf, levelOf, parallelOf, perpendicularOf, collinearOf, equalOf, distanceOf, axisDistanceOf, lengthOf, pointLineOf, arcEndsOf, radiusKindOf, lineCircleOf, circleCircleOf, lineArcAtOf, arcArcAtOf, midpointOf, arcMidpointOf, symmetricOf, equalRadiusOf};
 ghost use Rattle.rows.specs.Located.{atOf};
+use crate::Ends;
 use crate::answer::Values;
 use crate::located::apart;
 use crate::located::at;
 use crate::located::dir;
-use crate::located::line_at;
 use crate::located::middle;
 use crate::located::offset;
 use crate::located::span;
@@ -235,21 +236,16 @@ fn equal_radius(
 }
 
 // The residuals of an equation at the coordinates x. A measure is its equation with the value 0.
-pub fn values(e: Equation, lines: [Line; 40], places: &[u8], x: &[f64]) -> Values
-    ensures { λ r. ⌜ r ≡ valuesOf (rowsOfEquation lines (atOf (now (places .entry)) (now (x .entry))) e) ⌝ }
+pub fn values(e: Equation, ends: Ends, places: &[u8], x: &[f64]) -> Values
+    ensures { λ r. ⌜ r ≡ valuesOf (rowsGiven ends (atOf (now (places .entry)) (now (x .entry))) e) ⌝ }
 {
     match e {
         Equation::Coincident(a, b) => coincident(places, x, a, b),
         Equation::Level(a, b, axis) => level(places, x, a, b, axis),
-        Equation::Parallel(i, j) => parallel(places, x, line_at(lines, i), line_at(lines, j)),
-        Equation::Perpendicular(i, j) => perpendicular(
-            places,
-            x,
-            line_at(lines, i),
-            line_at(lines, j),
-        ),
-        Equation::Collinear(i, j) => collinear(places, x, line_at(lines, i), line_at(lines, j)),
-        Equation::Equal(i, j) => equal(places, x, line_at(lines, i), line_at(lines, j)),
+        Equation::Parallel(_, _) => parallel(places, x, ends.first, ends.second),
+        Equation::Perpendicular(_, _) => perpendicular(places, x, ends.first, ends.second),
+        Equation::Collinear(_, _) => collinear(places, x, ends.first, ends.second),
+        Equation::Equal(_, _) => equal(places, x, ends.first, ends.second),
         Equation::Held => none(),
         Equation::Distance(a, b, value) => distance(places, x, a, b, value),
         Equation::AxisDistance(a, b, axis, value, side) => axis_distance(
@@ -261,25 +257,11 @@ pub fn values(e: Equation, lines: [Line; 40], places: &[u8], x: &[f64]) -> Value
             value,
             side,
         ),
-        Equation::Length(l, value) => length(places, x, line_at(lines, l), value),
-        Equation::PointLine(p, l, value, side) => point_line(
-            places,
-            x,
-            p,
-            line_at(lines, l),
-            value,
-            side,
-        ),
+        Equation::Length(_, value) => length(places, x, ends.first, value),
+        Equation::PointLine(p, _, value, side) => point_line(places, x, p, ends.first, value, side),
         Equation::ArcEnds(c, f, t) => arc_ends(places, x, c, f, t),
         Equation::Radius(c, f, value) => radius(places, x, c, f, value),
-        Equation::LineCircle(l, c, rad, side) => line_circle(
-            places,
-            x,
-            line_at(lines, l),
-            c,
-            rad,
-            side,
-        ),
+        Equation::LineCircle(_, c, rad, side) => line_circle(places, x, ends.first, c, rad, side),
         Equation::CircleCircle(c1, r1, c2, r2, contact) => circle_circle(
             places,
             x,
@@ -289,11 +271,11 @@ pub fn values(e: Equation, lines: [Line; 40], places: &[u8], x: &[f64]) -> Value
             r2,
             contact,
         ),
-        Equation::LineArcAt(l, c, p) => line_arc_at(places, x, line_at(lines, l), c, p),
+        Equation::LineArcAt(_, c, p) => line_arc_at(places, x, ends.first, c, p),
         Equation::ArcArcAt(c1, c2, p) => arc_arc_at(places, x, c1, c2, p),
-        Equation::Midpoint(p, l) => midpoint(places, x, p, line_at(lines, l)),
+        Equation::Midpoint(p, _) => midpoint(places, x, p, ends.first),
         Equation::ArcMidpoint(p, c, f, t) => arc_midpoint(places, x, p, c, f, t),
-        Equation::Symmetric(p, q, l) => symmetric(places, x, p, q, line_at(lines, l)),
+        Equation::Symmetric(p, q, _) => symmetric(places, x, p, q, ends.first),
         Equation::EqualRadius(c1, f1, c2, f2) => equal_radius(places, x, c1, f1, c2, f2),
     }
 }

@@ -3,8 +3,12 @@ ghost use mathlib.Core.Path.{_≡_};
 ghost use Prim.Native.Nat.{_+_, _≤_};
 ghost use Rattle.loops.specs.Turns.{fold};
 ghost use Rattle.rows.specs.Column.{laid, nextValue, columnOf};
-ghost use Rattle.rows.specs.Kinds.{rowsOfEquation};
+ghost use Rattle.rows.specs.Ends.{rowsGiven};
 ghost use Rattle.rows.specs.Located.{atOf};
+use crate::Ends;
+use crate::lines::ends_of;
+use crate::lines::lines_of;
+use crate::lines::place_of;
 use crate::residual::values;
 use sketch::Active;
 use sketch::Equation;
@@ -15,14 +19,14 @@ fn values_into(
     r: &mut [f64],
     row: usize,
     e: Equation,
-    lines: [Line; 40],
+    ends: Ends,
     places: &[u8],
     x: &[f64],
 ) -> usize
     requires { ⌜ row ≤ 78 ⌝ }
-    ensures { λ n. ⌜ (laid n (now (r .exit)) ≡ fold nextValue (laid row (now (r .entry))) (rowsOfEquation lines (atOf (now (places .entry)) (now (x .entry))) e)) × (n ≤ row + 2) ⌝ }
+    ensures { λ n. ⌜ (laid n (now (r .exit)) ≡ fold nextValue (laid row (now (r .entry))) (rowsGiven ends (atOf (now (places .entry)) (now (x .entry))) e)) × (n ≤ row + 2) ⌝ }
 {
-    let v = values(e, lines, places, x);
+    let v = values(e, ends, places, x);
     if v.count == 0 {
         return row;
     }
@@ -59,7 +63,11 @@ pub fn residuals(
         }
         let a = equations[k];
         let e = a.equation;
-        row = values_into(r, row, e, lines, places, x);
+        let named = lines_of(e);
+        let first = place_of(named.first);
+        let second = place_of(named.second);
+        let ends = ends_of(named, lines[first], lines[second]);
+        row = values_into(r, row, e, ends, places, x);
     }
     row
 }

@@ -3,11 +3,15 @@ ghost use mathlib.Core.Path.{_≡_};
 ghost use Prim.Native.Nat.{_+_, _≤_};
 ghost use Rattle.loops.specs.Turns.{fold};
 ghost use Rattle.rows.specs.Column.{laid};
-ghost use Rattle.rows.specs.Kinds.{rowsOfEquation};
+ghost use Rattle.rows.specs.Ends.{rowsGiven};
 ghost use Rattle.rows.specs.Located.{atOf};
 ghost use Rattle.slopes.specs.Dense.{nextRow, jacobianOf};
 use crate::dense::row_into;
 use partials::gradients;
+use rows::Ends;
+use rows::ends_of;
+use rows::lines_of;
+use rows::place_of;
 use sketch::Active;
 use sketch::Equation;
 use sketch::Line;
@@ -17,16 +21,16 @@ fn rows_into(
     j: &mut [f64],
     row: usize,
     e: Equation,
-    lines: [Line; 40],
+    ends: Ends,
     places: &[u8],
     columns: &[u8],
     n: usize,
     x: &[f64],
 ) -> usize
     requires { ⌜ (row ≤ 78) × (n ≤ 80) ⌝ }
-    ensures { λ m. ⌜ (laid m (now (j .exit)) ≡ fold (nextRow (now (places .entry)) (now (columns .entry)) n) (laid row (now (j .entry))) (rowsOfEquation lines (atOf (now (places .entry)) (now (x .entry))) e)) × (m ≤ row + 2) ⌝ }
+    ensures { λ m. ⌜ (laid m (now (j .exit)) ≡ fold (nextRow (now (places .entry)) (now (columns .entry)) n) (laid row (now (j .entry))) (rowsGiven ends (atOf (now (places .entry)) (now (x .entry))) e)) × (m ≤ row + 2) ⌝ }
 {
-    let g = gradients(e, lines, places, x);
+    let g = gradients(e, ends, places, x);
     if g.count == 0 {
         return row;
     }
@@ -67,7 +71,11 @@ pub fn jacobian(
         }
         let a = equations[k];
         let e = a.equation;
-        row = rows_into(j, row, e, lines, places, columns, n, x);
+        let named = lines_of(e);
+        let first = place_of(named.first);
+        let second = place_of(named.second);
+        let ends = ends_of(named, lines[first], lines[second]);
+        row = rows_into(j, row, e, ends, places, columns, n, x);
     }
     row
 }

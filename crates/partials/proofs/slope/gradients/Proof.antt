@@ -1,93 +1,159 @@
 -- Arm by arm: what the arm found out about the value, and what the calls in it promise. Assumes nothing.
 use borrow.Author.Needs.{needs}
 use Rattle.partials.specs.Gradients.{gradientsOf}
-use Rattle.rows.specs.Kinds.{axisDistanceOf, coincidentOf, distanceOf, lengthOf, levelOf, midpointOf, pointLineOf, radiusKindOf, rowsOfEquation}
+use Rattle.rows.specs.Ends.{rowsGiven}
+use Rattle.rows.specs.Kinds.{axisDistanceOf, coincidentOf, distanceOf, lengthOf, levelOf, midpointOf, pointLineOf, radiusKindOf}
 use Rattle.partials.proofs.slope.gradients.Statement.{statement}
 use Rattle.partials.proofs.slope.gradients.Tie as tie
 
 returns : tie.Need-returns
-unfolding rowsOfEquation gradientsOf coincidentOf
+unfolding rowsGiven gradientsOf coincidentOf
 returns c = rw (c .before .before .e .given .1, c .coincident .ensures)
 
 returns-2 : tie.Need-returns-2
-unfolding rowsOfEquation gradientsOf levelOf
+unfolding rowsGiven gradientsOf levelOf
 returns-2 c = rw (c .before .before .e2 .given .1, c .level .ensures)
 
 returns-3 : tie.Need-returns-3
-unfolding rowsOfEquation
-returns-3 c = rw (c .before .before .before .before .e3 .given .1, c .parallel .ensures, c .before .line-at2 .ensures, c .before .before .line-at .ensures)
+unfolding rowsGiven
+returns-3 c = rw (c .before .enum-told .given .1, c .parallel .ensures)
 
 returns-4 : tie.Need-returns-4
-unfolding rowsOfEquation
-returns-4 c = rw (c .before .before .before .before .e4 .given .1, c .perpendicular .ensures, c .before .line-at4 .ensures, c .before .before .line-at3 .ensures)
+unfolding rowsGiven
+returns-4 c = rw (c .before .enum-told2 .given .1, c .perpendicular .ensures)
 
 returns-5 : tie.Need-returns-5
-unfolding rowsOfEquation
-returns-5 c = rw (c .before .before .before .before .e5 .given .1, c .collinear .ensures, c .before .line-at6 .ensures, c .before .before .line-at5 .ensures)
+unfolding rowsGiven
+returns-5 c = rw (c .before .enum-told3 .given .1, c .collinear .ensures)
 
 returns-6 : tie.Need-returns-6
-unfolding rowsOfEquation
-returns-6 c = rw (c .before .before .before .before .e6 .given .1, c .equal .ensures, c .before .line-at8 .ensures, c .before .before .line-at7 .ensures)
+unfolding rowsGiven
+returns-6 c = rw (c .before .enum-told4 .given .1, c .equal .ensures)
 
 returns-7 : tie.Need-returns-7
-unfolding rowsOfEquation gradientsOf
-returns-7 c = rw (c .before .enum-told .given .1, c .none .ensures)
+unfolding rowsGiven gradientsOf
+returns-7 c = rw (c .before .enum-told5 .given .1, c .none .ensures)
 
 returns-8 : tie.Need-returns-8
-unfolding rowsOfEquation gradientsOf distanceOf
-returns-8 c = rw (c .before .before .e7 .given .1, c .distance .ensures)
+unfolding rowsGiven gradientsOf distanceOf
+returns-8 c = rw (c .before .before .e3 .given .1, c .distance .ensures)
 
 returns-9 : tie.Need-returns-9
-unfolding rowsOfEquation gradientsOf axisDistanceOf
-returns-9 c = rw (c .before .before .e8 .given .1, c .axis-distance .ensures)
+unfolding rowsGiven gradientsOf axisDistanceOf
+returns-9 c = rw (c .before .before .e4 .given .1, c .axis-distance .ensures)
 
 returns-10 : tie.Need-returns-10
-unfolding rowsOfEquation gradientsOf lengthOf
-returns-10 c = rw (c .before .before .before .e9 .given .1, c .length .ensures, c .before .line-at9 .ensures)
+unfolding rowsGiven gradientsOf lengthOf
+returns-10 c = rw (c .before .enum-told6 .given .1, c .length .ensures)
 
 returns-11 : tie.Need-returns-11
-unfolding rowsOfEquation gradientsOf pointLineOf
-returns-11 c = rw (c .before .before .before .e10 .given .1, c .point-line .ensures, c .before .line-at10 .ensures)
+unfolding rowsGiven gradientsOf pointLineOf
+returns-11 c = rw (c .before .before .e5 .given .1, c .point-line .ensures)
 
 returns-12 : tie.Need-returns-12
-unfolding rowsOfEquation
-returns-12 c = rw (c .before .before .e11 .given .1, c .arc-ends .ensures)
+unfolding rowsGiven
+returns-12 c = rw (c .before .before .e6 .given .1, c .arc-ends .ensures)
 
 returns-13 : tie.Need-returns-13
-unfolding rowsOfEquation gradientsOf radiusKindOf
-returns-13 c = rw (c .before .before .e12 .given .1, c .radius .ensures)
+unfolding rowsGiven gradientsOf radiusKindOf
+returns-13 c = rw (c .before .before .e7 .given .1, c .radius .ensures)
 
 returns-14 : tie.Need-returns-14
-unfolding rowsOfEquation
-returns-14 c = rw (c .before .before .before .e13 .given .1, c .line-circle .ensures, c .before .line-at11 .ensures)
+unfolding rowsGiven
+returns-14 c = rw (c .before .before .e8 .given .1, c .line-circle .ensures)
 
 returns-15 : tie.Need-returns-15
-unfolding rowsOfEquation
-returns-15 c = rw (c .before .before .e14 .given .1, c .circle-circle .ensures)
+unfolding rowsGiven
+returns-15 c = rw (c .before .before .e9 .given .1, c .circle-circle .ensures)
 
 returns-16 : tie.Need-returns-16
-unfolding rowsOfEquation
-returns-16 c = rw (c .before .before .before .e15 .given .1, c .line-arc-at .ensures, c .before .line-at12 .ensures)
+unfolding rowsGiven
+returns-16 c = rw (c .before .before .e10 .given .1, c .line-arc-at .ensures)
 
 returns-17 : tie.Need-returns-17
-unfolding rowsOfEquation
-returns-17 c = rw (c .before .before .e16 .given .1, c .arc-arc-at .ensures)
+unfolding rowsGiven
+returns-17 c = rw (c .before .before .e11 .given .1, c .arc-arc-at .ensures)
 
 returns-18 : tie.Need-returns-18
-unfolding rowsOfEquation gradientsOf midpointOf
-returns-18 c = rw (c .before .before .before .e17 .given .1, c .midpoint .ensures, c .before .line-at13 .ensures)
+unfolding rowsGiven gradientsOf midpointOf
+returns-18 c = rw (c .before .before .e12 .given .1, c .midpoint .ensures)
 
 returns-19 : tie.Need-returns-19
-unfolding rowsOfEquation
-returns-19 c = rw (c .before .before .e18 .given .1, c .arc-midpoint .ensures)
+unfolding rowsGiven
+returns-19 c = rw (c .before .before .e13 .given .1, c .arc-midpoint .ensures)
 
 returns-20 : tie.Need-returns-20
-unfolding rowsOfEquation
-returns-20 c = rw (c .before .before .before .e19 .given .1, c .symmetric .ensures, c .before .line-at14 .ensures)
+unfolding rowsGiven
+returns-20 c = rw (c .before .before .e14 .given .1, c .symmetric .ensures)
 
 returns-21 : tie.Need-returns-21
-unfolding rowsOfEquation
-returns-21 c = rw (c .before .before .e20 .given .1, c .equal-radius .ensures)
+unfolding rowsGiven
+returns-21 c = rw (c .before .before .e15 .given .1, c .equal-radius .ensures)
 
 pub gradients-spec : {M : Type 1} → statement M
-gradients-spec = tie.close (tie.spec (λ c. search needs) (λ c κs. search needs) (λ c. search needs) (λ c κs. search needs) (λ c. search needs) (λ c κs. search needs) (λ c κs. search needs) (λ c κs. search needs) (λ c. search needs) (λ c κs. search needs) (λ c κs. search needs) (λ c κs. search needs) (λ c. search needs) (λ c κs. search needs) (λ c κs. search needs) (λ c κs. search needs) (λ c. search needs) (λ c κs. search needs) (λ c κs. search needs) (λ c κs. search needs) (λ c. search needs) (λ c κs. search needs) (λ c. search needs) (λ c κs. search needs) (λ c. search needs) (λ c κs. search needs) (λ c. search needs) (λ c κs. search needs) (λ c κs. search needs) (λ c. search needs) (λ c κs. search needs) (λ c κs. search needs) (λ c. search needs) (λ c κs. search needs) (λ c. search needs) (λ c κs. search needs) (λ c. search needs) (λ c κs. search needs) (λ c κs. search needs) (λ c. search needs) (λ c κs. search needs) (λ c. search needs) (λ c κs. search needs) (λ c κs. search needs) (λ c. search needs) (λ c κs. search needs) (λ c. search needs) (λ c κs. search needs) (λ c κs. search needs) (λ c. search needs) (λ c κs. search needs) (λ c. search needs) (λ c κs. search needs) (λ c κs. search needs) (λ c. search needs) (λ c κs. search needs) returns returns-2 returns-3 returns-4 returns-5 returns-6 returns-7 returns-8 returns-9 returns-10 returns-11 returns-12 returns-13 returns-14 returns-15 returns-16 returns-17 returns-18 returns-19 returns-20 returns-21)
+gradients-spec =
+    tie.close
+    (tie.spec
+    (λ c. search needs)
+    (λ c κs. search needs)
+    (λ c. search needs)
+    (λ c κs. search needs)
+    (λ c. search needs)
+    (λ c κs. search needs)
+    (λ c. search needs)
+    (λ c κs. search needs)
+    (λ c. search needs)
+    (λ c κs. search needs)
+    (λ c. search needs)
+    (λ c κs. search needs)
+    (λ c. search needs)
+    (λ c κs. search needs)
+    (λ c. search needs)
+    (λ c κs. search needs)
+    (λ c. search needs)
+    (λ c κs. search needs)
+    (λ c. search needs)
+    (λ c κs. search needs)
+    (λ c. search needs)
+    (λ c κs. search needs)
+    (λ c. search needs)
+    (λ c κs. search needs)
+    (λ c. search needs)
+    (λ c κs. search needs)
+    (λ c. search needs)
+    (λ c κs. search needs)
+    (λ c. search needs)
+    (λ c κs. search needs)
+    (λ c. search needs)
+    (λ c κs. search needs)
+    (λ c. search needs)
+    (λ c κs. search needs)
+    (λ c. search needs)
+    (λ c κs. search needs)
+    (λ c. search needs)
+    (λ c κs. search needs)
+    (λ c. search needs)
+    (λ c κs. search needs)
+    (λ c. search needs)
+    (λ c κs. search needs)
+    returns
+    returns-2
+    returns-3
+    returns-4
+    returns-5
+    returns-6
+    returns-7
+    returns-8
+    returns-9
+    returns-10
+    returns-11
+    returns-12
+    returns-13
+    returns-14
+    returns-15
+    returns-16
+    returns-17
+    returns-18
+    returns-19
+    returns-20
+    returns-21)
