@@ -9,7 +9,7 @@ use lib.Ieee.{Float}
 use lib.ListN.{length, take, drop, replicate, length-take, length-map, length-replicate}
 use lib.Seq.{take-at, drop-at}
 use Rattle.floats.specs.Ops.{zero⁺}
-use Rattle.members.proofs.Sized.{taken}
+use Rattle.groups.proofs.Counted.{taken}
 use Rattle.members.specs.Lists.{numbersOf}
 use Rattle.members.specs.Movable.{pointsAt, indicesOf}
 use Rattle.members.specs.Scale.{startOf, start-length}

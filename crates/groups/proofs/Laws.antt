@@ -1,26 +1,21 @@
 -- What the turns of the loops come to, over plain lists and numbers. Assumes nothing.
 use Prim.Native.Nat.{ℕ, zero, suc, _+_, _≤_, _<_, max, min}
 use mathlib.Core.Bool.{Bool, true, false, not, cond}
-use mathlib.Core.List.{List, [], _∷_, map}
+use mathlib.Core.List.{List, [], _∷_}
 use mathlib.Core.Logic.{_≢_}
 use mathlib.Core.Path.{_≡_, refl, sym, ap, _∙_}
 use native.Mathlib.Nat.{not-suc-le-zero}
 use native.Mathlib.Omega.{arith}
 use borrow.Author.Tests.{eq-eqb, ne-eqb, not-true, not-false}
 use lib.Dec.{eqb}
-use lib.ListN.{length, getD, set, take, drop, length-take}
+use lib.ListN.{length, getD, set, drop, length-take}
 use lib.Seq.{getD-take}
 use Rattle.loops.specs.Turns.{upTo, upTo-next, fold}
-use Rattle.sketch.specs.Involved.{involvedOf, touchedOf}
-use Rattle.sketch.specs.declared.Active.{Active}
-use Rattle.sketch.specs.declared.Equation.{Equation}
-use Rattle.sketch.specs.declared.Line.{Line}
-use Rattle.sketch.specs.declared.Rad.{Rad}
 use Rattle.sketch.specs.declared.Touched.{Touched}
 use Rattle.groups.specs.Listed.{pointOf, enteredOf, numberedOf, groupOf, listEquation, listEquations, listPoint, listPoints, groupsOf}
 use Rattle.groups.specs.Parents.{up, Falls, Gives, halved, rootOf, joinTo, joinAll, joined, alone}
 use Rattle.groups.specs.Tied.{tieAll, tiedOf}
-use Rattle.groups.specs.Touches.{number, numberAt, numbersOf, touchedIn, held}
+use Rattle.groups.specs.Touches.{numberAt, numbersOf}
 use Rattle.groups.specs.declared.Listing.{Listing}
 use Rattle.groups.proofs.Forest.{getD-any, root-next, root-done, root-kept, root-is, rt-low, join-falls, halved-falls, halved-up}
 use Rattle.groups.proofs.Keeps.{upTo-keeps}
@@ -78,41 +73,6 @@ pub number-at : (t : Touched) (j : ℕ) → j < length (numbersOf t) → getD (n
 number-at t j h =
     getD-take (t .count) (numberAt t 0 ∷ numberAt t 1 ∷ numberAt t 2 ∷ numberAt t 3 ∷ []) j 0 (omega (arith, numbers-length t))
     ∙ four t j (omega (arith, numbers-length t))
-
--- an equation touches at most four points, so none is cut off
-whole : (ls : List Line) (e : Equation) → numbersOf (touchedOf (involvedOf ls e)) ≡ map number (involvedOf ls e)
-whole ls (Equation.Coincident a b) = refl
-whole ls (Equation.Level a b axis) = refl
-whole ls (Equation.Parallel i j) = refl
-whole ls (Equation.Perpendicular i j) = refl
-whole ls (Equation.Collinear i j) = refl
-whole ls (Equation.Equal i j) = refl
-whole ls Equation.Held = refl
-whole ls (Equation.Distance a b value) = refl
-whole ls (Equation.AxisDistance a b axis value side) = refl
-whole ls (Equation.Length l value) = refl
-whole ls (Equation.PointLine p l value side) = refl
-whole ls (Equation.ArcEnds c f t) = refl
-whole ls (Equation.Radius c f value) = refl
-whole ls (Equation.LineCircle l c (Rad.Point p) side) = refl
-whole ls (Equation.LineCircle l c (Rad.Value v) side) = refl
-whole ls (Equation.CircleCircle c₁ (Rad.Point p₁) c₂ (Rad.Point p₂) contact) = refl
-whole ls (Equation.CircleCircle c₁ (Rad.Point p₁) c₂ (Rad.Value v₂) contact) = refl
-whole ls (Equation.CircleCircle c₁ (Rad.Value v₁) c₂ (Rad.Point p₂) contact) = refl
-whole ls (Equation.CircleCircle c₁ (Rad.Value v₁) c₂ (Rad.Value v₂) contact) = refl
-whole ls (Equation.LineArcAt l c p) = refl
-whole ls (Equation.ArcArcAt c₁ c₂ p) = refl
-whole ls (Equation.Midpoint p l) = refl
-whole ls (Equation.ArcMidpoint p c f t) = refl
-whole ls (Equation.Symmetric p q l) = refl
-whole ls (Equation.EqualRadius c₁ f₁ c₂ f₂) = refl
-
-pub touched-is : (es : List Active) (ls : List Line) (n k : ℕ) (d : Active) (t : Touched) → k < length (take n es)
-    → t ≡ touchedOf (involvedOf ls (getD es k d .equation)) → numbersOf t ≡ touchedIn (take n es) ls k
-unfolding touchedIn
-touched-is es ls n k d t h e =
-    rw (e, getD-take n es k held (omega (arith, length-take n es)), getD-any es k held d (omega (arith, length-take n es)))
-    (whole ls (getD es k d .equation))
 
 pub point-falls : (b : Bool) (q : ℕ) (g : Gives Listing) (ps : List ℕ) → Falls (g .parents) → ps ≡ pointOf b q g .parents → Falls ps
 unfolding pointOf
@@ -195,30 +155,20 @@ module _ (index ps : List ℕ) (t : Touched) where
       let l : 0 < length (numbersOf t) = omega (arith, numbers-length t) in
       group-owned index (numbersOf t) ps (numberAt t 0) l (number-at t 0 l)
 
--- a turn of each sweep over the equations
-module _ (es : List Active) (ls : List Line) (n k : ℕ) (d : Active) (t : Touched) (h : k < length (take n es))
-    (e : t ≡ touchedOf (involvedOf ls (getD es k d .equation))) where
-  pub tie-turn : (s s′ R : List Bool) → s′ ≡ tieAll (numbersOf t) s
-      → upTo (length (take n es)) k (λ k. tieAll (touchedIn (take n es) ls k)) s ≡ R
-      → upTo (length (take n es)) (k + 1) (λ k. tieAll (touchedIn (take n es) ls k)) s′ ≡ R
-  tie-turn s s′ R q r =
-      upTo-next (λ k. tieAll (touchedIn (take n es) ls k)) (length (take n es)) k s s′ R h
-      (q ∙ ap (λ l. tieAll l s) (touched-is es ls n k d t h e)) r
+-- a turn of each sweep over n equations: equation k touches pts
+module _ (t : ℕ → List ℕ) (n k : ℕ) (pts : List ℕ) (h : k < n) (e : pts ≡ t k) where
+  pub tie-turn : (s s′ R : List Bool) → s′ ≡ tieAll pts s → upTo n k (λ k. tieAll (t k)) s ≡ R → upTo n (k + 1) (λ k. tieAll (t k)) s′ ≡ R
+  tie-turn s s′ R q r = upTo-next (λ k. tieAll (t k)) n k s s′ R h (q ∙ ap (λ l. tieAll l s) e) r
 
-  pub join-turn : (s s′ R : List ℕ) → s′ ≡ joinAll (numbersOf t) s
-      → upTo (length (take n es)) k (λ k. joinAll (touchedIn (take n es) ls k)) s ≡ R
-      → upTo (length (take n es)) (k + 1) (λ k. joinAll (touchedIn (take n es) ls k)) s′ ≡ R
-  join-turn s s′ R q r =
-      upTo-next (λ k. joinAll (touchedIn (take n es) ls k)) (length (take n es)) k s s′ R h
-      (q ∙ ap (λ l. joinAll l s) (touched-is es ls n k d t h e)) r
+  pub join-turn : (s s′ R : List ℕ) → s′ ≡ joinAll pts s → upTo n k (λ k. joinAll (t k)) s ≡ R → upTo n (k + 1) (λ k. joinAll (t k)) s′ ≡ R
+  join-turn s s′ R q r = upTo-next (λ k. joinAll (t k)) n k s s′ R h (q ∙ ap (λ l. joinAll l s) e) r
 
-  pub list-turn : (index : List ℕ) (g : Gives (List ℕ)) (ps : List ℕ) (v : ℕ) (R : Gives (List ℕ)) → ps ≡ groupOf index (numbersOf t) (g .parents) .parents
-      → v ≡ groupOf index (numbersOf t) (g .parents) .answer → upTo (length (take n es)) k (listEquation index (touchedIn (take n es) ls)) g ≡ R
-      → upTo (length (take n es)) (k + 1) (listEquation index (touchedIn (take n es) ls)) (record { parents = ps; answer = set (g .answer) k v }) ≡ R
+  pub list-turn : (index : List ℕ) (g : Gives (List ℕ)) (ps : List ℕ) (v : ℕ) (R : Gives (List ℕ)) → ps ≡ groupOf index pts (g .parents) .parents
+      → v ≡ groupOf index pts (g .parents) .answer → upTo n k (listEquation index t) g ≡ R
+      → upTo n (k + 1) (listEquation index t) (record { parents = ps; answer = set (g .answer) k v }) ≡ R
   unfolding listEquation
   list-turn index g ps v R p q r =
-      upTo-next (listEquation index (touchedIn (take n es) ls)) (length (take n es)) k g (record { parents = ps; answer = set (g .answer) k v }) R h
-      (rw (p, q, touched-is es ls n k d t h e)) r
+      upTo-next (listEquation index t) n k g (record { parents = ps; answer = set (g .answer) k v }) R h (rw (p, q, e)) r
 
 pub joined-falls : (t : ℕ → List ℕ) (n : ℕ) (ps ps′ : List ℕ) → Falls ps → ps′ ≡ joined t n ps → Falls ps′
 unfolding joined

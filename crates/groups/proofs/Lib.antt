@@ -10,6 +10,8 @@
 --     Exactly    the groups are exactly the chains, of any equations
 --     Theorem    and of every build that passes the checks before the fit
 --     Laws       the turns of the code's loops
+--     Counted    as many items as a count says
+--     Filled     the row of what each equation touches
 pub mod Keeps
 pub mod Forest
 pub mod Links
@@ -21,3 +23,5 @@ pub mod Places
 pub mod Exactly
 pub mod Theorem
 pub mod Laws
+pub mod Counted
+pub mod Filled

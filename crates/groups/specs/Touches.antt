@@ -2,7 +2,7 @@
 use Prim.Native.Nat.{ℕ}
 use mathlib.Core.List.{List, [], _∷_, map}
 use lib.ListN.{getD, take}
-use Rattle.sketch.specs.Involved.{involvedOf, noPoint}
+use Rattle.sketch.specs.Involved.{involvedOf, noPoint, touchedOf}
 use Rattle.sketch.specs.Parts.{equationsOf}
 use Rattle.sketch.specs.declared.Active.{Active}
 use Rattle.sketch.specs.declared.Build.{Build}
@@ -20,6 +20,13 @@ numberAt t j = number (getD (t .points) j noPoint)
 
 abbrev pub numbersOf : Touched → List ℕ
 numbersOf t = take (t .count) (numberAt t 0 ∷ numberAt t 1 ∷ numberAt t 2 ∷ numberAt t 3 ∷ [])
+
+abbrev pub untouched : Touched
+untouched = touchedOf []
+
+-- those of equation k, where the code has them in a row
+unfoldable pub touchesIn : List Touched → ℕ → List ℕ
+touchesIn ts k = numbersOf (getD ts k untouched)
 
 -- what stands past the last equation touches nothing
 abbrev pub held : Active

@@ -4,7 +4,8 @@ use native.Mathlib.Omega.{arith}
 use lib.ListN.{length, take, replicate, length-take}
 use Rattle.floats.specs.Ops.{zero⁺}
 use Rattle.loops.specs.Parts.{front}
-use Rattle.members.proofs.Sized.{sized, taken}
+use Rattle.groups.proofs.Counted.{taken}
+use Rattle.members.proofs.Sized.{sized}
 use Rattle.rounds.proofs.Begins.{at-most, values-first}
 use Rattle.fit.proofs.Shows.{worst-is}
 use borrow.Author.Needs.{needs}

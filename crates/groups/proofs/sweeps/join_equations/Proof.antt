@@ -3,51 +3,45 @@ use Prim.Native.Nat.{_-_, _≤_}
 use mathlib.Core.Path.{_≡_, refl}
 use native.Mathlib.Omega.{arith}
 use borrow.Author.Needs.{needs}
-use lib.ListN.{length, take, length-take}
+use lib.ListN.{length}
 use Rattle.loops.specs.Turns.{upTo, upTo-done}
 use Rattle.groups.specs.Parents.{Falls, joinAll, joined}
-use Rattle.groups.specs.Touches.{touchedIn}
+use Rattle.groups.specs.Touches.{touchesIn}
+use Rattle.groups.proofs.Filled.{row-at}
 use Rattle.groups.proofs.Laws.{join-turn, joinAll-falls}
 use Rattle.groups.proofs.sweeps.join_equations.Statement.{statement}
 use Rattle.groups.proofs.sweeps.join_equations.Tie as tie
 
 abbrev Inv-loop : tie.InvT-loop
-Inv-loop p₀ n lines equations m k₀ p k =
-    (length p ≡ length p₀)
-    × (Falls p)
-    × (k ≤ m)
-    ×
-    (upTo (length (take n equations)) k (λ k. joinAll (touchedIn (take n equations) lines k)) p ≡ joined (touchedIn (take n equations) lines) (length (take n equations)) p₀)
+Inv-loop p₀ n ts k₀ p k =
+    (length p ≡ length p₀) × (Falls p) × (k ≤ n) × (upTo n k (λ k. joinAll (touchesIn ts k)) p ≡ joined (touchesIn ts) n p₀)
 
 abbrev μ-loop : tie.MeasureT-loop
-μ-loop p₀ n lines equations m k₀ p k = m - k
+μ-loop p₀ n ts k₀ p k = n - k
 
 loop-holds : tie.Need-loop-holds Inv-loop μ-loop
 unfolding joined
-loop-holds c = (search needs, c .before .before .pre, search needs, refl)
+loop-holds c = (search needs, c .before .pre .0, search needs, refl)
 
 join-all-requires : tie.Need-join-all-requires Inv-loop μ-loop
-join-all-requires c κs = c .before .before .before .before .loop .inv .1
+join-all-requires c κs = c .before .before .before .loop .inv .1
 
 loop-again : tie.Need-loop-again Inv-loop μ-loop
 loop-again c =
-    let a = c .before .before .before .before .before .before .before .before .before .before .args in
-    let l = c .before .before .before .before .before .before .before .loop in
-    let touched = c .before .before .before .touched in
+    let a = c .before .before .before .before .before .before .before .before .args in
+    let l = c .before .before .before .before .before .before .loop in
     let join-all = c .before .before .join-all in (
       search needs,
       joinAll-falls _ (l .p) _ (l .inv .1) (join-all .ensures),
       search needs,
-      join-turn (a .t2) (a .lines) (a .n) (l .k) _ (touched .result) (omega (arith, length-take (a .n) (a .t2))) (touched .ensures) (l .p) _ _
-          (join-all .ensures) (l .inv .3),
+      join-turn (touchesIn (a .t2)) (a .n) (l .k) _ (search needs) (row-at (a .t2) (l .k) _ (omega arith)) (l .p) _ _ (join-all .ensures) (l .inv .3),
     )
 
 returns : tie.Need-returns Inv-loop μ-loop
 returns c =
-    let a = c .before .before .before .before .args in
+    let a = c .before .before .before .args in
     let l = c .before .loop in
-    upTo-done (λ k. joinAll (touchedIn (take (a .n) (a .t2)) (a .lines) k)) (length (take (a .n) (a .t2))) (l .k) (l .p) _
-    (omega (arith, length-take (a .n) (a .t2))) (l .inv .3)
+    upTo-done (λ k. joinAll (touchesIn (a .t2) k)) (a .n) (l .k) (l .p) _ (omega arith) (l .inv .3)
 
 pub join-equations-spec : {M : Type 1} → statement M
 join-equations-spec =
@@ -55,11 +49,9 @@ join-equations-spec =
     (tie.spec
     Inv-loop
     μ-loop
-    (λ c κs. search needs)
     loop-holds
     (λ c. search needs)
     (λ c. search needs)
-    (λ c κs. search needs)
     join-all-requires
     (λ c. search needs)
     (λ c. search needs)

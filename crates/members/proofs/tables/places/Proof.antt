@@ -3,8 +3,9 @@ use mathlib.Core.Path.{_≡_, ap, _∙_}
 use native.Mathlib.Omega.{arith}
 use borrow.Author.Needs.{needs}
 use lib.ListN.{length, replicate}
+use Rattle.groups.proofs.Counted.{taken}
 use Rattle.members.specs.Tables.{numberedOf}
-use Rattle.members.proofs.Sized.{sized, taken}
+use Rattle.members.proofs.Sized.{sized}
 use Rattle.members.proofs.tables.places.Statement.{statement}
 use Rattle.members.proofs.tables.places.Tie as tie
 
