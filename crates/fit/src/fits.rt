@@ -1,9 +1,9 @@
 // The fit of a frame with some of its equations, and the residuals there.
 ghost use mathlib.Core.Path.{_≡_};
-ghost use Prim.Native.Nat.{min};
 ghost use Rattle.fit.specs.Fits.{Fits, shownOf, worstOf};
 use crate::Fitted;
 use crate::Frame;
+use loops::smaller;
 use members::Listed;
 use rounds::Ending;
 use rounds::Solved;
@@ -29,12 +29,6 @@ fn shown(s: Solved, x: [f64; 80]) -> Fitted
             x: [0.0; 80],
         },
     }
-}
-
-fn smaller(a: usize, b: usize) -> usize
-    ensures { λ r. ⌜ r ≡ min a b ⌝ }
-{
-    if a < b { a } else { b }
 }
 
 // The fit of the frame with the chosen equations.

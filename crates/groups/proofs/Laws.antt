@@ -18,7 +18,7 @@ use Rattle.groups.specs.Tied.{tieAll, tiedOf}
 use Rattle.groups.specs.Touches.{numberAt, numbersOf}
 use Rattle.groups.specs.declared.Listing.{Listing}
 use Rattle.groups.proofs.Forest.{getD-any, root-next, root-done, root-kept, root-is, rt-low, join-falls, halved-falls, halved-up}
-use Rattle.groups.proofs.Keeps.{upTo-keeps}
+use Rattle.loops.specs.Keeps.{upTo-keeps}
 
 -- a turn of `root`: u and a are x's parent, b is a's, v is x's parent after the store
 module _ (ps ps′ : List ℕ) (x u a b v : ℕ) (f : Falls ps) (n : u ≢ x) (e : u ≡ up ps x) (i : a ≡ up ps x) (j : b ≡ up ps a)

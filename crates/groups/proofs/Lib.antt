@@ -1,5 +1,4 @@
 -- Laws, and the theorem.
---     Keeps      what a counting loop keeps
 --     Forest     the parents: roots, halving, joins
 --     Links      being joined by a chain is an equivalence
 --     Roots      two touched points have one root exactly when a chain joins them
@@ -12,7 +11,6 @@
 --     Laws       the turns of the code's loops
 --     Counted    as many items as a count says
 --     Filled     the row of what each equation touches
-pub mod Keeps
 pub mod Forest
 pub mod Links
 pub mod Roots

@@ -17,7 +17,7 @@ use Rattle.groups.specs.Listed.{nothing, numberedOf, enteredOf, pointOf,
 use Rattle.groups.specs.Parents.{Falls, Gives, rootOf}
 use Rattle.groups.specs.declared.Listing.{Listing}
 use Rattle.groups.proofs.Forest.{rt, rt-low, rt-rt, Kept, kept-refl, kept-trans, root-kept, root-is}
-use Rattle.groups.proofs.Keeps.{upTo-keeps}
+use Rattle.loops.specs.Keeps.{upTo-keeps}
 use Rattle.groups.proofs.Numbers.{leads, Leads, before, lead, lead-tied, lead-not, untied-not, before-zero, before-yes, before-no, before-le}
 use Rattle.groups.proofs.Ties.{tiedAt}
 

@@ -1,9 +1,10 @@
 // The parents: a point's parent is itself or a lower point, so a walk up ends at the lowest point of a tree, its root.
 ghost use mathlib.Core.Path.{_≡_};
-ghost use Prim.Native.Nat.{max, min};
+ghost use Prim.Native.Nat.{max};
 ghost use lib.ListN.{set};
 ghost use Rattle.groups.specs.Parents.{up, Falls, Leaves, rootOf, joinTo, joinAll};
 ghost use Rattle.groups.specs.Touches.{numbersOf};
+use loops::smaller;
 use sketch::Touched;
 
 fn up(p: &[usize], x: usize) -> usize
@@ -24,12 +25,6 @@ fn larger(a: usize, b: usize) -> usize
     ensures { λ r. ⌜ r ≡ max a b ⌝ }
 {
     if a < b { b } else { a }
-}
-
-pub(crate) fn smaller(a: usize, b: usize) -> usize
-    ensures { λ r. ⌜ r ≡ min a b ⌝ }
-{
-    if a < b { a } else { b }
 }
 
 // The root of x. Each point on the way gets its parent's parent, so that the next walk is half as long.

@@ -11,9 +11,9 @@ use crate::NO_GROUP;
 use crate::numbering::group_of;
 use crate::numbering::list_points;
 use crate::parents::join_all;
-use crate::parents::smaller;
 use crate::tied::all_touched;
 use crate::tied::tie_equations;
+use loops::smaller;
 use sketch::Build;
 use sketch::Touched;
 

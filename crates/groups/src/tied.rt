@@ -7,7 +7,7 @@ ghost use Rattle.groups.specs.Tied.{tieAll, tiedOf};
 ghost use Rattle.groups.specs.Touches.{numbersOf, touchedIn, touchedBy, touchesIn, untouched};
 ghost use Rattle.sketch.specs.Involved.{touchedOf, involvedOf};
 ghost use Rattle.sketch.specs.Parts.{equationsOf};
-use crate::parents::smaller;
+use loops::smaller;
 use sketch::Active;
 use sketch::Build;
 use sketch::Line;

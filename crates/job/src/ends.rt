@@ -11,10 +11,10 @@ use crate::freedoms::loose;
 use crate::outputs::hand_out;
 use crate::refusals::verdict;
 use crate::sweeps::all_groups;
-use crate::sweeps::smaller;
 use answer::Answer;
 use answer::GroupFit;
 use groups::Grouping;
+use loops::smaller;
 use sketch::Build;
 use sketch::Checked;
 

@@ -1,6 +1,6 @@
 // The groups one after another.
 ghost use mathlib.Core.Path.{_≡_};
-ghost use Prim.Native.Nat.{_≤_, min};
+ghost use Prim.Native.Nat.{_≤_};
 ghost use lib.ListN.{length};
 ghost use Rattle.job.specs.Groups.{begin, groupsFrom, resultOf};
 use crate::Doing;
@@ -10,12 +10,6 @@ use crate::points::starts;
 use answer::GroupFit;
 use groups::Grouping;
 use sketch::Build;
-
-pub(crate) fn smaller(a: usize, b: usize) -> usize
-    ensures { λ r. ⌜ r ≡ min a b ⌝ }
-{
-    if a < b { a } else { b }
-}
 
 fn begun(b: Build) -> Doing
     ensures { λ d. ⌜ d ≡ begin b ⌝ }

@@ -1,13 +1,11 @@
 -- Laws, and the theorems.
 --     Both       a call's two answers make one record
---     Keeps      what a counting loop keeps
 --     Forest     the parents: ranks, roots, halving
 --     Joins      the roots after a join
 --     Roots      every walk ends at a root, which is its run's
 --     Takes      what the sweep over the points does
 --     Theorem    every point that is not fixed takes its root's coordinate, over every build that passes the check
 pub mod Both
-pub mod Keeps
 pub mod Forest
 pub mod Joins
 pub mod Roots

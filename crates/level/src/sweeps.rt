@@ -9,15 +9,10 @@ use crate::parents::find;
 use crate::parents::join;
 use crate::table::fixed_at;
 use crate::table::fixed_points;
+use loops::smaller;
 use sketch::Active;
 use sketch::Build;
 use sketch::Equation;
-
-fn smaller(a: usize, b: usize) -> usize
-    ensures { λ r. ⌜ r ≡ min a b ⌝ }
-{
-    if a < b { a } else { b }
-}
 
 // Every point is its own root.
 fn each_alone() -> [usize; 40]

@@ -1,7 +1,7 @@
-// How loops are said and proved: the definitions and laws of specs/, which every crate's contracts and proofs cite. The one
-// function is the question that a call on a table in a lent slice begins with.
+// How loops are said and proved: the definitions and laws of specs/, which every crate's contracts and proofs cite; and two questions
+// that a call on lent slices begins with.
 ghost use mathlib.Core.Path.{_≡_};
-ghost use Prim.Native.Nat.{_*_};
+ghost use Prim.Native.Nat.{_*_, min};
 ghost use lib.Dec.{leb};
 
 // Whether `len` places hold a table of `rows` rows and `cols` columns, whatever the three numbers are: nothing wraps.
@@ -12,4 +12,11 @@ pub fn holds(len: usize, rows: usize, cols: usize) -> bool
         return true;
     }
     rows <= len / cols
+}
+
+// How far a loop goes that two counts bound.
+pub fn smaller(a: usize, b: usize) -> usize
+    ensures { λ r. ⌜ r ≡ min a b ⌝ }
+{
+    if a < b { a } else { b }
 }

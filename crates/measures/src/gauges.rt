@@ -1,12 +1,12 @@
 // Each measure is its dimension's equation with the value 0, back in the build's size.
 ghost use mathlib.Core.List.{map};
 ghost use mathlib.Core.Path.{_≡_};
-ghost use Prim.Native.Nat.{min};
 ghost use lib.ListN.{take};
 ghost use Rattle.floats.specs.Lists.{copiedOf};
 ghost use Rattle.measures.specs.Gauges.{equationOf, gaugeOf, measuredIn};
 use crate::scale::in_order;
 use crate::scale::scaled;
+use loops::smaller;
 use sketch::Build;
 use sketch::Equation;
 use sketch::Line;
@@ -36,12 +36,6 @@ fn gauge(m: Measured, lines: [Line; 40], places: &[u8], x: &[f64], size: f64) ->
     let ends = rows::ends_of(named, lines[first], lines[second]);
     let v = rows::values(e, ends, places, x);
     floats::handed_out(v.first * size)
-}
-
-fn smaller(a: usize, b: usize) -> usize
-    ensures { λ r. ⌜ r ≡ min a b ⌝ }
-{
-    if a < b { a } else { b }
 }
 
 // As many of the first n measures as there is room for.

@@ -1,17 +1,12 @@
 // Numbers at the head of an array, one pushed after another.
 ghost use mathlib.Core.List.{[]};
 ghost use mathlib.Core.Path.{_≡_};
-ghost use Prim.Native.Nat.{_<_, min};
+ghost use Prim.Native.Nat.{_<_};
 ghost use Rattle.groups.specs.Chains.{placesFrom, pointsIn, equationsIn};
 ghost use Rattle.members.specs.Lists.{Lists, listedOf, numbersOf, pushedOf, withoutOf};
 use crate::Listed;
 use groups::Grouping;
-
-pub(crate) fn smaller(a: usize, b: usize) -> usize
-    ensures { λ r. ⌜ r ≡ min a b ⌝ }
-{
-    if a < b { a } else { b }
-}
+use loops::smaller;
 
 fn none() -> Listed
     ensures { λ r. ⌜ r ≡ listedOf [] ⌝ }

@@ -7,7 +7,7 @@ ghost use Rattle.members.specs.Lists.{numbersOf};
 ghost use Rattle.members.specs.Movable.{Holds, fixedOf, nowhere, pointsAt, freeFrom, coordinatesOf, pushedTwo};
 use crate::Coordinates;
 use crate::Listed;
-use crate::lists::smaller;
+use loops::smaller;
 use plane::Vec2;
 use sketch::Point;
 use sketch::State;

@@ -7,7 +7,7 @@ ghost use Rattle.members.specs.Movable.{indicesOf};
 ghost use Rattle.members.specs.Tables.{numberedOf, placesOf, columnsOf};
 use crate::Coordinates;
 use crate::Listed;
-use crate::lists::smaller;
+use loops::smaller;
 
 fn put(t: &mut [u8], c: usize, k: u8)
     ensures { λ _. ⌜ now (t .exit) ≡ set (now (t .entry)) c k ⌝ }

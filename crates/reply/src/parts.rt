@@ -1,6 +1,6 @@
 // The parts of a reply: lines of one sort after another.
 ghost use mathlib.Core.Path.{_≡_};
-ghost use Prim.Native.Nat.{_≤_, _+_, _*_, min};
+ghost use Prim.Native.Nat.{_≤_, _+_, _*_};
 ghost use Rattle.reply.specs.Laid.{laid, laying};
 ghost use Rattle.reply.specs.Lines.{suspectLine, pointLine, measureLine};
 ghost use Rattle.reply.specs.Reply.{rising, groupLines, outputLines, fittedLines, failedLines, linesAfter, replyOf};
@@ -12,19 +12,14 @@ use crate::lines::status_line;
 use crate::lines::suspect_line;
 use crate::lines::total_lines;
 use answer::Answer;
+use loops::smaller;
 use sketch::Ending;
-
-fn at_most(n: usize, bound: usize) -> usize
-    ensures { λ r. ⌜ r ≡ min n bound ⌝ }
-{
-    if n < bound { n } else { bound }
-}
 
 fn group_lines(reply: &mut [u8], at: usize, a: Answer) -> usize
     ensures { λ r. ⌜ laid r (now (reply .exit)) ≡ laying (groupLines a) (laid at (now (reply .entry))) ⌝ }
 {
     let groups = a.groups;
-    let n = at_most(a.group_count, 40);
+    let n = smaller(a.group_count, 40);
     let mut next = at;
     for i in 0..n {
         let g = groups[i];
@@ -119,8 +114,8 @@ pub(crate) fn whole_reply(
 ) -> usize
     ensures { λ r. ⌜ laid r (now (reply .exit)) ≡ laying (replyOf a (now (out .entry)) points measures) (laid 0 (now (reply .entry))) ⌝ }
 {
-    let p = at_most(points, 40);
-    let m = at_most(measures, 20);
+    let p = smaller(points, 40);
+    let m = smaller(measures, 20);
     let e = a.ending;
     let at = status_line(reply, 0, e);
     lines_after(reply, at, a, out, p, m)

@@ -11,7 +11,6 @@ use Rattle.fit.proofs.fits.fit.Tie as tie
 use Rattle.fit.proofs.fits.fit.Reads as reads
 use Rattle.fit.proofs.fits.fit.Lts as lts
 use Rattle.fit.proofs.fits.shown.Reads as shown-reads
-use Rattle.fit.proofs.fits.smaller.Reads as smaller-reads
 use Rattle.members.proofs.start.Reads as start-reads
 use Rattle.rounds.proofs.solve.Reads as solve-reads
 

@@ -13,7 +13,6 @@ use Rattle.fit.proofs.fits.worst.Statement.{statement}
 use Rattle.fit.proofs.fits.worst.Tie as tie
 use Rattle.fit.proofs.fits.worst.Reads as reads
 use Rattle.fit.proofs.fits.worst.Lts as lts
-use Rattle.fit.proofs.fits.smaller.Reads as smaller-reads
 use Rattle.rows.proofs.residuals.Reads as residuals-reads
 use Rattle.solver.proofs.max_abs.Reads as max-abs-reads
 

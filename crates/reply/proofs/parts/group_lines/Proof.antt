@@ -20,7 +20,7 @@ abbrev μ-loop : tie.MeasureT-loop
 μ-loop reply₀ at groups n next₀ i₀ reply next i = n - i
 
 loop-holds : tie.Need-loop-holds Inv-loop μ-loop
-loop-holds c = (search needs, omega (arith, c .at-most .ensures), refl, rising-start _ _)
+loop-holds c = (search needs, omega (arith, c .smaller .ensures), refl, rising-start _ _)
 
 loop-again : tie.Need-loop-again Inv-loop μ-loop
 loop-again c =
@@ -29,7 +29,7 @@ loop-again c =
 
 returns : tie.Need-returns Inv-loop μ-loop
 unfolding groupLines
-returns c = rw (← c .before .before .at-most .ensures) (rising-done _ _ _ _ _ (c .before .loop .inv .0) (search needs) (c .before .loop .inv .3))
+returns c = rw (← c .before .before .smaller .ensures) (rising-done _ _ _ _ _ (c .before .loop .inv .0) (search needs) (c .before .loop .inv .3))
 
 pub group-lines-spec : {M : Type 1} → statement M
 group-lines-spec =

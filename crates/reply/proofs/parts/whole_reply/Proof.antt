@@ -9,7 +9,7 @@ use Rattle.reply.proofs.parts.whole_reply.Tie as tie
 lines-after-requires : tie.Need-lines-after-requires
 lines-after-requires c κs =
     let m = c .before .before .before .before .before in
-    (omega (arith, m .before .at-most .ensures), omega (arith, m .at-most2 .ensures))
+    (omega (arith, m .before .smaller .ensures), omega (arith, m .smaller2 .ensures))
 
 returns : tie.Need-returns
 unfolding replyOf
@@ -17,7 +17,7 @@ returns c =
     let l = c .before .before in
     let s = l .before .before .before .before in
     let m = s .before .before in
-    rw (← m .at-most2 .ensures, ← m .before .at-most .ensures) (then _ _ _ _ _ (s .status-line .ensures) (l .lines-after .ensures))
+    rw (← m .smaller2 .ensures, ← m .before .smaller .ensures) (then _ _ _ _ _ (s .status-line .ensures) (l .lines-after .ensures))
 
 pub whole-reply-spec : {M : Type 1} → statement M
 whole-reply-spec =
