@@ -3,6 +3,7 @@ use Prim.Native.Nat.{ℕ, _+_, _*_, _≤_}
 use mathlib.Core.Bool.{Bool, true, false, cond}
 use mathlib.Core.List.{List, [], _∷_, map}
 use mathlib.Core.Path.{_≡_, refl}
+use lib.Dec.{ltb}
 use lib.ListN.{length, getD, take, set}
 use lib.Seq.{take-at}
 use Rattle.floats.specs.Ops.{zero⁺}
@@ -24,6 +25,10 @@ fixedOf p = fixedState (p .state)
 -- what stands where there is no point: one that is kept at the origin, so that nothing moves it
 abbrev pub nowhere : Point
 nowhere = record { start = record { x = zero⁺; y = zero⁺ }; state = Kept }
+
+-- the point q, where its number p is one of the 40
+unfoldable pub knownOf : ℕ → Point → Point
+knownOf p q = cond (ltb p 40) q nowhere
 
 -- the points with these numbers
 abbrev pub pointsAt : List Point → List ℕ → List Point

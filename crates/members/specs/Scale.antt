@@ -78,6 +78,10 @@ unscaleTo points centre size p x k out =
     let q = getD points p nowhere in
     cond (ltb p (length points)) (putPoint p (backTo centre size (q .state) (q .start) (coordinatesAt x k)) out) out
 
+-- the same of a point that is at hand, q, with the number p among 40
+unfoldable pub unscaleOne : Point → Vec2 → Float → ℕ → List Float → ℕ → List Float → List Float
+unscaleOne q centre size p x k out = cond (ltb p 40) (putPoint p (backTo centre size (q .state) (q .start) (coordinatesAt x k)) out) out
+
 unfoldable pub unscaleAt : List Point → Vec2 → Float → List ℕ → List Float → ℕ → List Float → List Float
 unscaleAt points centre size ps x k out = unscaleTo points centre size (getD ps k 0) x k out
 

@@ -2,9 +2,8 @@
 ghost use mathlib.Core.List.{[]};
 ghost use mathlib.Core.Path.{_≡_};
 ghost use Prim.Native.Nat.{_*_, _≤_, _<_};
-ghost use lib.ListN.{getD};
 ghost use Rattle.members.specs.Lists.{numbersOf};
-ghost use Rattle.members.specs.Movable.{Holds, fixedOf, nowhere, pointsAt, freeFrom, coordinatesOf, pushedTwo};
+ghost use Rattle.members.specs.Movable.{Holds, fixedOf, knownOf, pointsAt, freeFrom, coordinatesOf, pushedTwo};
 use crate::Coordinates;
 use crate::Listed;
 use loops::smaller;
@@ -24,12 +23,13 @@ pub fn fixed(p: Point) -> bool
     }
 }
 
-// The point with the number p, and past the last one that is kept at the origin.
-pub(crate) fn point_at(points: [Point; 40], p: usize) -> Point
-    ensures { λ r. ⌜ r ≡ getD points p nowhere ⌝ }
+// The point q, where its number p is one of the 40, and else one that is kept at the origin. The loop that has the points looks q
+// up, at `smaller(p, 39)`: a callee that indexes them would get a copy of them all at each call.
+pub(crate) fn known(p: usize, q: Point) -> Point
+    ensures { λ r. ⌜ r ≡ knownOf p q ⌝ }
 {
     if p < 40 {
-        points[p]
+        q
     } else {
         Point {
             start: Vec2 { x: 0.0, y: 0.0 },
@@ -72,7 +72,9 @@ pub fn free(points: [Point; 40], l: Listed) -> Coordinates
     let mut f = none_free();
     for k in 0..n {
         let p = l.items[k];
-        f = pushed_two(f, k, !fixed(point_at(points, p)));
+        let place = smaller(p, 39);
+        let q = points[place];
+        f = pushed_two(f, k, !fixed(known(p, q)));
     }
     f
 }

@@ -5,9 +5,9 @@ ghost use Prim.Native.Nat.{_*_, _≤_, _<_};
 ghost use lib.ListN.{length, drop, take};
 ghost use Rattle.members.specs.Lists.{numbersOf};
 ghost use Rattle.members.specs.Movable.{pointsAt};
-ghost use Rattle.members.specs.Scale.{standing, inUnits, scaledOf, startOf, startIn, moveBy, moved, backTo, unscaleTo, unscaleOf};
+ghost use Rattle.members.specs.Scale.{standing, inUnits, scaledOf, startOf, startIn, moveBy, moved, backTo, unscaleOne, unscaleOf};
 use crate::Listed;
-use crate::movable::point_at;
+use crate::movable::known;
 use loops::smaller;
 use plane::Vec2;
 use sketch::Point;
@@ -54,7 +54,9 @@ fn start_all(
 {
     for k in 0..n {
         let p = items[k];
-        let s = scaled(point_at(points, p), centre, size);
+        let place = smaller(p, 39);
+        let q = points[place];
+        let s = scaled(known(p, q), centre, size);
         x[2 * k] = s.x;
         x[2 * k + 1] = s.y;
     }
@@ -97,21 +99,12 @@ fn back(centre: Vec2, size: f64, state: State, start: Vec2, x: Vec2) -> Vec2
     }
 }
 
-// The k-th listed point, p, goes to its two places.
-fn unscale_one(
-    points: [Point; 40],
-    centre: Vec2,
-    size: f64,
-    p: usize,
-    x: &[f64],
-    k: usize,
-    out: &mut [f64],
-)
+// The k-th listed point, q with the number p, goes to its two places.
+fn unscale_one(q: Point, centre: Vec2, size: f64, p: usize, x: &[f64], k: usize, out: &mut [f64])
     requires { ⌜ k < 40 ⌝ }
-    ensures { λ _. ⌜ now (out .exit) ≡ unscaleTo points centre size p (now (x .entry)) k (now (out .entry)) ⌝ }
+    ensures { λ _. ⌜ now (out .exit) ≡ unscaleOne q centre size p (now (x .entry)) k (now (out .entry)) ⌝ }
 {
     if p < 40 {
-        let q = point_at(points, p);
         let state = q.state;
         let start = q.start;
         let at = Vec2 {
@@ -132,6 +125,8 @@ pub fn unscale(points: [Point; 40], centre: Vec2, size: f64, l: Listed, x: &[f64
     let n = smaller(l.count, 40);
     for k in 0..n {
         let p = l.items[k];
-        unscale_one(points, centre, size, p, x, k, out);
+        let place = smaller(p, 39);
+        let q = points[place];
+        unscale_one(q, centre, size, p, x, k, out);
     }
 }
