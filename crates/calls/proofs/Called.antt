@@ -1,6 +1,6 @@
 -- From what the counts and the judged calls promise to the promise of a call by its name. Assumes nothing.
 use Prim.Native.Nat.{ℕ, _≤_, _<_}
-use mathlib.Core.Bool.{Bool, true, false}
+use mathlib.Core.Bool.{Bool, false}
 use mathlib.Core.List.{List}
 use mathlib.Core.Path.{_≡_, refl}
 use borrow.Author.Tests.{lt-ltb, le-ltb}
@@ -12,7 +12,7 @@ use Rattle.spelling.specs.declared.Cursor.{Cursor}
 use Rattle.spelling.specs.declared.WholeRead.{WholeRead}
 use Rattle.calls.specs.Counts.{blank, Blank, rowSame, rowCall, eliminateCall, nullSpaceCall}
 use Rattle.calls.specs.Matrices.{eliminateSame, nullSpaceSame}
-use Rattle.calls.specs.Taking.{numberOf}
+use Rattle.wording.specs.Taking.{numberOf}
 use Rattle.calls.specs.declared.counts.Row.{Row}
 
 pub is-blank : Blank blank

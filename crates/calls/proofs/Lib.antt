@@ -3,4 +3,3 @@ pub mod Matrix
 pub mod Called
 pub mod Named
 pub mod Said
-pub mod Grouped

@@ -10,9 +10,8 @@ use Rattle.solver.specs.Promise.{Solves}
 use Rattle.solver.specs.declared.Elimination.{Elimination}
 use Rattle.spelling.specs.declared.Cursor.{Cursor}
 use Rattle.calls.specs.Matrices.{eliminationSaid, nullSpaceSaid, eliminateSame, nullSpaceSame}
-use Rattle.calls.specs.Numbers.{start}
-use Rattle.calls.specs.Saying.{linesSaid}
-use Rattle.calls.specs.Taking.{endedOf, taken, linesTaken}
+use Rattle.wording.specs.Saying.{start, linesSaid}
+use Rattle.wording.specs.Taking.{endedOf, taken, linesTaken}
 
 module _ (text reply : List ℕ) (c d e first last : Cursor) (x y : Bool) where
   pub eliminate-judged : (n : ℕ) (a b a₁ b₁ a₂ b₂ : List Float) (r : Elimination) (matrix : Cursor)

@@ -1,14 +1,9 @@
--- A reply that is gone through to its end is the text that it was to say, and no other: `says-sound`, `says-itself`; so a call that is
--- judged the same has the very reply (`roots-exactly`, `elimination-exactly`). Assumes nothing.
-use Prim.Native.Nat.{ℕ, _-_, _≤_}
-use mathlib.Core.Bool.{Bool, true, false, _&&_}
-use mathlib.Core.List.{List, [], _∷_, _++_, append-nil}
-use mathlib.Core.Path.{_≡_, refl, sym, ap, _∙_}
-use native.Mathlib.Omega.{arith}
-use borrow.Author.Tests.{eqb-true, eq-eqb}
-use lib.Dec.{T, eqb}
+-- A call that is judged the same has the very reply: `roots-exactly`, `elimination-exactly`. Assumes nothing.
+use Prim.Native.Nat.{ℕ}
+use mathlib.Core.Bool.{true}
+use mathlib.Core.List.{List, [], _∷_, _++_}
+use mathlib.Core.Path.{_≡_, refl, sym, _∙_}
 use lib.Ieee.{Float}
-use lib.ListN.{length, drop, length-drop, drop-of-length-le}
 use Rattle.loops.specs.Turns.{fold}
 use Rattle.reply.specs.Figures.{float}
 use Rattle.reply.specs.Laid.{fold-append}
@@ -16,49 +11,23 @@ use Rattle.root.specs.Root.{sqrtOf}
 use Rattle.solver.specs.Promise.{answerOf, matrixAfter, rightAfter}
 use Rattle.solver.specs.declared.Elimination.{Elimination}
 use Rattle.solver.specs.declared.Elimination.the-variants.{Solved, None, TooMany, TooShort}
-use Rattle.spelling.proofs.Steps.{Here, word-forward, word-backward}
 use Rattle.spelling.specs.Places.{eatOf}
 use Rattle.spelling.specs.declared.Cursor.{Cursor}
+use Rattle.wording.proofs.Said.{both, says-sound}
+use Rattle.wording.specs.Saying.{start, said, floatSaid, linesSaid}
+use Rattle.wording.specs.Taking.{endedOf, placeOf, listOf, linesTaken}
 use Rattle.calls.specs.Matrices.{eliminationSaid, eliminateSame}
-use Rattle.calls.specs.Numbers.{start, rootLines, sqrtSame}
-use Rattle.calls.specs.Saying.{said, lineSaid, linesSaid}
-use Rattle.calls.specs.Taking.{Taken, endedOf, placeOf, listOf, linesTaken}
+use Rattle.calls.specs.Numbers.{rootLines, sqrtSame}
 use Rattle.calls.specs.Texts.{linesText, rootsText, eliminationText}
-
-both : (p q : Bool) → p && q ≡ true → (p ≡ true) × (q ≡ true)
-both true q h = (refl, h)
-both false q h = (h, cc)
-
-at-start : (s : List ℕ) → Here s start s
-at-start s = record { good = refl; within = omega arith; rest = refl }
-
-module _ (s bs : List ℕ) where
-  pub says-sound : endedOf s (said s start bs) ≡ true → s ≡ bs
-  says-sound h =
-      let c = said s start bs in
-      let ok : c .ok ≡ true = both (c .ok) (eqb (c .at) (length s)) h .0 in
-      let end : c .at ≡ length s = eqb-true (c .at) (length s) (both (c .ok) (eqb (c .at) (length s)) h .1) in
-      let w = word-backward s bs start s (at-start s) ok in
-      let past : length s ≤ c .at = omega arith in
-      let none : w .0 ≡ [] = sym (w .2 .rest) ∙ drop-of-length-le s past in
-      w .1 ∙ rw (none, append-nil)
-
-pub says-itself : (bs : List ℕ) → endedOf bs (said bs start bs) ≡ true
-says-itself bs =
-    let c = said bs start bs in
-    let h : Here bs c [] = word-forward bs bs start [] (rw (append-nil bs) (at-start bs)) in
-    let e : length bs - c .at ≡ 0 = sym (length-drop (c .at) bs) ∙ ap length (h .rest) in
-    let w : c .at ≤ length bs = h .within in
-    rw (h .good, eq-eqb (c .at) (length bs) (omega arith))
 
 module _ (s : List ℕ) where
   lines-text : (c : Cursor) (v : List Float) → linesSaid s c v ≡ said s c (linesText v)
-  unfolding fold linesText lineSaid
+  unfolding fold linesText floatSaid
   lines-text c [] = refl
   lines-text c (x ∷ v) = lines-text (said s c (float x 10)) v ∙ sym (fold-append (eatOf s) c (float x 10) (linesText v))
 
   roots-text : (c : Cursor) (v : List Float) → rootLines s c v ≡ said s c (rootsText v)
-  unfolding fold rootsText lineSaid
+  unfolding fold rootsText floatSaid
   roots-text c [] = refl
   roots-text c (x ∷ v) = roots-text (said s c (float (sqrtOf x) 10)) v ∙ sym (fold-append (eatOf s) c (float (sqrtOf x) 10) (rootsText v))
 

@@ -1,5 +1,5 @@
--- Which call a text is, with its counts, and whether a reply is what the call answers.
-use mathlib.Core.Bool.{Bool, true, false, cond}
+-- The counts that follow a call's name, and whether a reply is what the call answers.
+use mathlib.Core.Bool.{Bool, false, cond}
 use mathlib.Core.List.{List}
 use mathlib.Core.Path.{_≡_}
 use Prim.Native.Nat.{ℕ}
@@ -7,16 +7,10 @@ use lib.Dec.{ltb}
 use lib.Ieee.{Float}
 use lib.ListN.{length, take, replicate}
 use Rattle.floats.specs.Ops.{zero⁺}
-use Rattle.spelling.specs.Letters.{ascii}
 use Rattle.spelling.specs.declared.Cursor.{Cursor}
-use Rattle.spelling.specs.declared.WholeRead.{WholeRead}
-use Rattle.calls.specs.Listing.{namedCall}
 use Rattle.calls.specs.Matrices.{eliminateSame, nullSpaceSame}
-use Rattle.calls.specs.Numbers.{start, sqrtSame, maxAbsSame, norm2Same}
-use Rattle.calls.specs.Saying.{said}
-use Rattle.calls.specs.Taking.{numberOf}
-use Rattle.calls.specs.declared.Verdict.{Verdict}
-use Rattle.calls.specs.declared.Verdict.the-variants.{Same, Differs, LeftOut}
+use Rattle.calls.specs.Numbers.{sqrtSame, maxAbsSame, norm2Same}
+use Rattle.wording.specs.Taking.{numberOf}
 use Rattle.calls.specs.declared.counts.Row.{Row}
 use Rattle.calls.specs.declared.counts.Row.the-variants.{Roots, Largest, Squares}
 
@@ -57,21 +51,3 @@ nullSpaceCall text c reply =
     cond (ltb 8192 (m .value)) false
     (cond (ltb 8192 (o .value)) false
     (nullSpaceSame text (o .next) (rows .value) (columns .value) (places (m .value)) blank (places (o .value)) reply))
-
-abbrev pub verdictOf : Bool → Verdict
-verdictOf same = cond same Same Differs
-
-unfoldable pub judgeOf : List ℕ → List ℕ → Verdict
-judgeOf text reply =
-    let c₁ = said text start (ascii "sqrt ") in
-    let c₂ = said text start (ascii "maxabs ") in
-    let c₃ = said text start (ascii "norm2 ") in
-    let c₄ = said text start (ascii "eliminate ") in
-    let c₅ = said text start (ascii "nullspace ") in
-    let c₆ = said text start (ascii "groups\n") in
-    cond (c₁ .ok) (verdictOf (rowCall Roots text c₁ reply))
-    (cond (c₂ .ok) (verdictOf (rowCall Largest text c₂ reply))
-    (cond (c₃ .ok) (verdictOf (rowCall Squares text c₃ reply))
-    (cond (c₄ .ok) (verdictOf (eliminateCall text c₄ reply))
-    (cond (c₅ .ok) (verdictOf (nullSpaceCall text c₅ reply))
-    (cond (c₆ .ok) (verdictOf (namedCall text reply)) LeftOut)))))

@@ -1,6 +1,6 @@
 -- Whether a reply is what a call on a bare matrix answers and leaves: `eliminate`, `nullspace`. The floats are taken from c on, to
 -- lists that have a place for each.
-use mathlib.Core.Bool.{Bool, true, _&&_}
+use mathlib.Core.Bool.{Bool, _&&_}
 use mathlib.Core.List.{List}
 use Prim.Native.Nat.{ℕ}
 use lib.Dec.{eqb}
@@ -13,10 +13,8 @@ use Rattle.solver.specs.declared.Elimination.{Elimination}
 use Rattle.solver.specs.declared.Elimination.the-variants.{Solved, None, TooMany, TooShort}
 use Rattle.spelling.specs.Letters.{ascii}
 use Rattle.spelling.specs.declared.Cursor.{Cursor}
-use Rattle.spelling.specs.declared.WholeRead.{WholeRead}
-use Rattle.calls.specs.Numbers.{start}
-use Rattle.calls.specs.Saying.{said, linesSaid}
-use Rattle.calls.specs.Taking.{Taken, endedOf, numberOf, placeOf, listOf, linesTaken}
+use Rattle.wording.specs.Saying.{start, said, linesSaid}
+use Rattle.wording.specs.Taking.{endedOf, numberOf, placeOf, listOf, linesTaken}
 
 abbrev pub eliminationSaid : List ℕ → Cursor → Elimination → Cursor
 eliminationSaid s c Solved = said s c (ascii "answer\n")

@@ -1,6 +1,6 @@
 -- Whether a reply is what a call on floats in a row answers: `sqrt`, `maxabs`, `norm2`. The floats are taken from c on, to a list
 -- that has a place for each.
-use mathlib.Core.Bool.{Bool, true, _&&_}
+use mathlib.Core.Bool.{Bool, _&&_}
 use mathlib.Core.List.{List}
 use Prim.Native.Nat.{ℕ}
 use lib.Ieee.{Float}
@@ -8,11 +8,8 @@ use Rattle.loops.specs.Turns.{fold}
 use Rattle.root.specs.Root.{sqrtOf}
 use Rattle.solver.specs.Sums.{maxAbsOf, norm2Of}
 use Rattle.spelling.specs.declared.Cursor.{Cursor}
-use Rattle.calls.specs.Saying.{lineSaid}
-use Rattle.calls.specs.Taking.{Taken, endedOf, placeOf, listOf, linesTaken}
-
-abbrev pub start : Cursor
-start = record { at = 0; ok = true }
+use Rattle.wording.specs.Saying.{start, lineSaid}
+use Rattle.wording.specs.Taking.{endedOf, placeOf, listOf, linesTaken}
 
 abbrev pub rootLine : List ℕ → Cursor → Float → Cursor
 rootLine s c x = lineSaid s c (sqrtOf x)

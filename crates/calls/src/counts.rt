@@ -4,8 +4,8 @@ ghost use mathlib.Core.Path.{_≡_};
 ghost use Rattle.calls.specs.Counts.{Blank, rowSame, rowCall, eliminateCall, nullSpaceCall};
 use crate::matrices;
 use crate::numbers;
-use crate::taking::number;
 use spelling::Cursor;
+use wording::taking::number;
 
 // Room for floats. Apart, so that who calls it knows of it what its promise says and no more.
 fn room() -> [f64; 8192]

@@ -1,11 +1,8 @@
 // Single calls as texts (tests/README.md, "The text of a single call"), each judged beside the reply that is recorded for it.
 mod counts;
-mod listing;
 mod matrices;
 mod names;
 mod numbers;
-mod saying;
-mod taking;
 
 pub use names::judge;
 

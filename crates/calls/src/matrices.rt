@@ -1,12 +1,12 @@
 // Calls on a bare matrix: `eliminate`, `nullspace`.
 ghost use mathlib.Core.Path.{_≡_};
 ghost use Rattle.calls.specs.Matrices.{eliminationSaid, rankSaid, nullSpaceSaid, eliminateSame, nullSpaceSame};
-use crate::saying;
-use crate::taking;
 use nullspace::NullSpace;
 use solver::Elimination;
 use spelling::Cursor;
 use spelling::word;
+use wording::saying;
+use wording::taking;
 
 // The first line of elimination's reply.
 fn eliminated(s: &[u8], c: Cursor, e: Elimination) -> Cursor

@@ -1,9 +1,9 @@
 // Calls on floats in a row: `sqrt`, `maxabs`, `norm2`.
 ghost use mathlib.Core.Path.{_≡_};
 ghost use Rattle.calls.specs.Numbers.{rootLine, rootLines, sqrtSame, maxAbsSame, norm2Same};
-use crate::saying;
-use crate::taking;
 use spelling::Cursor;
+use wording::saying;
+use wording::taking;
 
 fn root_line(s: &[u8], c: Cursor, x: f64) -> Cursor
     ensures { λ r. ⌜ r ≡ rootLine (now (s .entry)) c x ⌝ }

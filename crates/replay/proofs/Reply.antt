@@ -1,27 +1,19 @@
 -- From what a run promises to what the judge of a record promises. Assumes nothing.
 use mathlib.Core.Bool.{Bool, true}
 use mathlib.Core.List.{List}
-use mathlib.Core.Path.{_≡_, refl, sym, _∙_}
+use mathlib.Core.Path.{_≡_, sym, _∙_}
 use Prim.Native.Nat.{ℕ, _≤_, _<_}
 use native.Mathlib.Omega.{arith}
-use borrow.Author.Tests.{le-leb}
 use lib.Ieee.{Float}
-use lib.ListN.{length, take, drop}
-use lib.Seq.{take-at}
-use Rattle.reply.specs.Promise.{writtenOf}
+use lib.ListN.{length, take}
+use Rattle.reply.specs.Promise.{written-first}
 use Rattle.reply.specs.Short.{short}
 use Rattle.run.specs.Promise.{Runs, replyBuild, replyBy, replyTo}
 use Rattle.sketch.specs.declared.Build.{Build}
 use Rattle.text.specs.Reader.{readOf}
 use Rattle.text.specs.declared.Outcome.{Outcome}
 use Rattle.text.specs.declared.Outcome.the-variants.{Read, Ends}
-use Rattle.text.specs.declared.Reading.{Reading}
 use Rattle.replay.specs.Judged.{area, answered, sameBytes, same-exactly}
-
--- what is written where there is room starts with the bytes
-head : (bs s : List ℕ) (n : ℕ) → n ≡ length bs → n ≤ length s → take n (writtenOf bs s) ≡ bs
-unfolding writtenOf
-head bs s n e h = rw (le-leb (length bs) (length s) (omega arith)) (take-at bs (drop (length bs) s) n (sym e))
 
 reply-short : (p q r : List Float) (o : Outcome) (b : Build) → length (replyBy p q r o b) ≤ 8192
 unfolding replyBuild
@@ -31,7 +23,7 @@ reply-short p q r (Ends e) b = short _ _ _ _
 module _ (text reply : List ℕ) (reply′ : List ℕ) (p′ q′ r′ : List Float) (n : ℕ) (ran : Runs text reply area area area reply′ p′ q′ r′ n) (recorded : List ℕ) where
   written : n ≤ length reply → take n reply′ ≡ answered text
   unfolding answered
-  written h = rw (ran .written) (head (replyTo area area area text) reply n (ran .needed) h)
+  written h = rw (ran .written) (written-first (replyTo area area area text) reply n (ran .needed) h)
 
   pub compared : (same : Bool) → n ≤ length reply → (same ≡ true → take n reply′ ≡ recorded) → (take n reply′ ≡ recorded → same ≡ true)
       → same ≡ sameBytes (answered text) recorded

@@ -8,7 +8,7 @@ use borrow.Author.Tests.{eqb-true, eq-eqb}
 use lib.Dec.{eqb}
 use lib.Ieee.{Float}
 use lib.ListN.{replicate}
-use Rattle.calls.specs.Counts.{verdictOf, judgeOf}
+use Rattle.calls.specs.Names.{verdictOf, judgeOf}
 use Rattle.calls.specs.declared.Verdict.{Verdict}
 use Rattle.floats.specs.Ops.{zero⁺}
 use Rattle.run.specs.Promise.{replyTo}

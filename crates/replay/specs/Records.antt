@@ -7,7 +7,6 @@ use lib.ListN.{length, take, drop}
 use Rattle.spelling.specs.Places.{eatOf}
 use Rattle.spelling.specs.Wholes.{wholeAt}
 use Rattle.spelling.specs.declared.Cursor.{Cursor}
-use Rattle.spelling.specs.declared.WholeRead.{WholeRead}
 use Rattle.replay.specs.declared.records.Record.{Record}
 
 -- the bytes from a up to e

@@ -35,7 +35,7 @@ pub(crate) fn put_whole(reply: &mut [u8], at: usize, n: usize, b: u8) -> usize
 }
 
 // The last hexadecimal digit.
-fn hex(b: u64) -> u8
+pub fn hex(b: u64) -> u8
     ensures { λ r. ⌜ r ≡ hexByte b ⌝ }
 {
     let d = (b % 16) as u8;
@@ -53,8 +53,8 @@ fn hex_digits(reply: &mut [u8], at: usize, k: usize, b: u64) -> usize
     put(reply, at, hex(b))
 }
 
-// A NaN has no bits of its own, so it is tested for first.
-fn bits(x: f64) -> u64
+// The bits that are written: a NaN has none of its own, so it is tested for first.
+pub fn bits(x: f64) -> u64
     ensures { λ r. ⌜ r ≡ toBits binary64 x ⌝ }
 {
     if x != x {

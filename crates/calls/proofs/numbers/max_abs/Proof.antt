@@ -1,6 +1,6 @@
 use Rattle.solver.specs.Sums.{maxAbsOf}
-use Rattle.calls.specs.Saying.{lineSaid}
-use Rattle.calls.specs.Numbers.{start, maxAbsSame}
+use Rattle.wording.specs.Saying.{start, lineSaid}
+use Rattle.calls.specs.Numbers.{maxAbsSame}
 use Rattle.calls.proofs.Laws.{both-ended}
 use borrow.Author.Needs.{needs}
 use Rattle.calls.proofs.numbers.max_abs.Statement.{statement}

@@ -1,6 +1,6 @@
 use Rattle.solver.specs.Sums.{norm2Of}
-use Rattle.calls.specs.Saying.{lineSaid}
-use Rattle.calls.specs.Numbers.{start, norm2Same}
+use Rattle.wording.specs.Saying.{start, lineSaid}
+use Rattle.calls.specs.Numbers.{norm2Same}
 use Rattle.calls.proofs.Laws.{both-ended}
 use borrow.Author.Needs.{needs}
 use Rattle.calls.proofs.numbers.norm2.Statement.{statement}

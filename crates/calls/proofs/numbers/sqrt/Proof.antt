@@ -1,4 +1,5 @@
-use Rattle.calls.specs.Numbers.{start, rootLines, sqrtSame}
+use Rattle.wording.specs.Saying.{start}
+use Rattle.calls.specs.Numbers.{rootLines, sqrtSame}
 use Rattle.calls.proofs.Laws.{both-ended}
 use borrow.Author.Needs.{needs}
 use Rattle.calls.proofs.numbers.sqrt.Statement.{statement}

@@ -1,0 +1,3 @@
+pub mod Levelled
+pub mod Shown
+pub mod Traced

@@ -1,0 +1,23 @@
+use Rattle.levels.specs.Drawn.{stateAt}
+use borrow.Author.Needs.{needs}
+use Rattle.levels.proofs.drawn.state.Statement.{statement}
+use Rattle.levels.proofs.drawn.state.Tie as tie
+
+returns : tie.Need-returns
+unfolding stateAt
+returns c = rw (← c .before .word .ensures, c .if1 .taken)
+
+returns-2 : tie.Need-returns-2
+unfolding stateAt
+returns-2 c = rw (← c .before .before .before .word .ensures, c .before .before .if1 .left, c .word2 .ensures)
+
+pub state-spec : {M : Type 1} → statement M
+state-spec =
+    tie.close
+    (tie.spec
+    (λ c. search needs)
+    (λ c κs. search needs)
+    returns
+    (λ c. search needs)
+    (λ c κs. search needs)
+    returns-2)
