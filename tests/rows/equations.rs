@@ -11,7 +11,8 @@ pub mod sweeps {
         rows: Vec<Vec<(usize, f64)>>,
     }
 
-    /// Nine words and four numbers an equation: see crates/rows_c.
+    /// Nine words (kind, four numbers, axis, the two radii's forms, the contact's form) and four numbers (value, side, the two plain
+    /// radii) an equation. A radius's point is its third or fourth number.
     fn equation(w: &[usize], n: &[f64]) -> Eq {
         let rad = |form: usize, p: usize, v: f64| if form == 0 { Rad::Value(v) } else { Rad::Point(p) };
         let (a, b, c, d) = (w[1], w[2], w[3], w[4]);

@@ -5,8 +5,8 @@ use sweeps::Rig;
 
 #[link(name = "rows_c", kind = "static")]
 unsafe extern "C" {
-    fn rows_residuals(words: *const usize, words_len: usize, numbers: *const f64, numbers_len: usize, ends: *const usize, ends_len: usize, chosen: *const usize, chosen_len: usize, places: *const u8, places_len: usize, x: *const f64, x_len: usize, r: *mut f64, r_len: usize, times: usize) -> usize;
-    fn rows_jacobian(words: *const usize, words_len: usize, numbers: *const f64, numbers_len: usize, ends: *const usize, ends_len: usize, chosen: *const usize, chosen_len: usize, places: *const u8, places_len: usize, columns: *const u8, columns_len: usize, free: usize, x: *const f64, x_len: usize, j: *mut f64, j_len: usize, times: usize) -> usize;
+    fn rows_residuals(text: *const u8, text_len: usize, chosen: *const usize, chosen_len: usize, places: *const u8, places_len: usize, x: *const f64, x_len: usize, r: *mut f64, r_len: usize, times: usize) -> usize;
+    fn rows_jacobian(text: *const u8, text_len: usize, chosen: *const usize, chosen_len: usize, places: *const u8, places_len: usize, columns: *const u8, columns_len: usize, free: usize, x: *const f64, x_len: usize, j: *mut f64, j_len: usize, times: usize) -> usize;
 }
 
 impl Chance {
@@ -23,10 +23,12 @@ impl Chance {
     }
 }
 
+/// A build both ways: nine words and four numbers for each equation as the Rust's harness takes them, and the text of a job.
 struct Case {
     words: Vec<usize>,
     numbers: Vec<f64>,
     ends: Vec<usize>,
+    text: String,
     points: Vec<usize>,
     chosen: Vec<usize>,
     free: Vec<usize>,
@@ -44,6 +46,56 @@ fn is_line(kind: usize, at: usize) -> bool {
         19 => at == 2,
         _ => false,
     }
+}
+
+fn hex(v: f64) -> String {
+    format!("{:016x}", v.to_bits())
+}
+
+fn sign(side: f64) -> &'static str {
+    if side == 1.0 { "+" } else { "-" }
+}
+
+/// An equation's line of a job.
+fn line(w: &[usize], n: &[f64]) -> String {
+    let &[kind, a, b, c, d, axis, r1, r2, touch] = w else { unreachable!("nine words") };
+    let &[value, side, v1, v2] = n else { unreachable!("four numbers") };
+    let (axis, value, side, contact) = (["x", "y"][axis], hex(value), sign(side), if touch == 0 { "o" } else { sign(side) });
+    let rad = |form: usize, p: usize, v: f64| if form == 0 { format!("v,{}", hex(v)) } else { format!("p,{p}") };
+    let (r1, r2) = (rad(r1, c, v1), rad(r2, d, v2));
+    match kind {
+        0 => format!("e=coincident,{a},{b}\n"),
+        1 => format!("e=level,{a},{b},{axis}\n"),
+        2 => format!("e=parallel,{a},{b}\n"),
+        3 => format!("e=perpendicular,{a},{b}\n"),
+        4 => format!("e=collinear,{a},{b}\n"),
+        5 => format!("e=equal,{a},{b}\n"),
+        6 => "e=held\n".to_string(),
+        7 => format!("e=distance,{a},{b},{value}\n"),
+        8 => format!("e=axisdistance,{a},{b},{axis},{value},{side}\n"),
+        9 => format!("e=length,{a},{value}\n"),
+        10 => format!("e=pointline,{a},{b},{value},{side}\n"),
+        11 => format!("e=arcends,{a},{b},{c}\n"),
+        12 => format!("e=radius,{a},{b},{value}\n"),
+        13 => format!("e=linecircle,{a},{b},{r1},{side}\n"),
+        14 => format!("e=circlecircle,{a},{r1},{b},{r2},{contact}\n"),
+        15 => format!("e=linearcat,{a},{b},{c}\n"),
+        16 => format!("e=arcarcat,{a},{b},{c}\n"),
+        17 => format!("e=midpoint,{a},{b}\n"),
+        18 => format!("e=arcmidpoint,{a},{b},{c},{d}\n"),
+        19 => format!("e=symmetric,{a},{b},{c}\n"),
+        _ => format!("e=equalradius,{a},{b},{c},{d}\n"),
+    }
+}
+
+/// The job's text. Where its points start does not matter to the sweeps.
+fn text(words: &[usize], numbers: &[f64], ends: &[usize]) -> String {
+    let zero = hex(0.0);
+    let head = format!("points=40\nlines=40\nequations={}\nmeasures=0\ncentre={zero},{zero}\nsize={}\n", words.len() / 9, hex(1.0));
+    let points = format!("p={zero},{zero},free\n").repeat(40);
+    let lines: String = ends.chunks(2).map(|l| format!("l={},{}\n", l[0], l[1])).collect();
+    let equations: String = words.chunks(9).zip(numbers.chunks(4)).map(|(w, n)| line(w, n)).collect();
+    head + &points + &lines + &equations
 }
 
 fn case(ch: &mut Chance, equations: usize, count: usize, kind: usize, fixed: usize) -> Case {
@@ -72,7 +124,8 @@ fn case(ch: &mut Chance, equations: usize, count: usize, kind: usize, fixed: usi
     let mut columns = vec![255u8; 2 * points.len()];
     free.iter().enumerate().for_each(|(k, &c)| columns[c] = k as u8);
     let x = (0..2 * points.len()).map(|_| ch.number(kind)).collect();
-    Case { words, numbers, ends, points, chosen, free, places, columns, x }
+    let text = text(&words, &numbers, &ends);
+    Case { words, numbers, ends, text, points, chosen, free, places, columns, x }
 }
 
 impl Case {
@@ -80,12 +133,12 @@ impl Case {
         Rig::new(&self.words, &self.numbers, &self.ends, &self.points, &self.chosen, &self.free)
     }
     fn residuals(&self, r: &mut [f64], times: usize) -> usize {
-        let Case { words, numbers, ends, chosen, places, x, .. } = self;
-        unsafe { rows_residuals(words.as_ptr(), words.len(), numbers.as_ptr(), numbers.len(), ends.as_ptr(), ends.len(), chosen.as_ptr(), chosen.len(), places.as_ptr(), places.len(), x.as_ptr(), x.len(), r.as_mut_ptr(), r.len(), times) }
+        let Case { text, chosen, places, x, .. } = self;
+        unsafe { rows_residuals(text.as_ptr(), text.len(), chosen.as_ptr(), chosen.len(), places.as_ptr(), places.len(), x.as_ptr(), x.len(), r.as_mut_ptr(), r.len(), times) }
     }
     fn jacobian(&self, j: &mut [f64], times: usize) -> usize {
-        let Case { words, numbers, ends, chosen, places, columns, x, .. } = self;
-        unsafe { rows_jacobian(words.as_ptr(), words.len(), numbers.as_ptr(), numbers.len(), ends.as_ptr(), ends.len(), chosen.as_ptr(), chosen.len(), places.as_ptr(), places.len(), columns.as_ptr(), columns.len(), self.free.len(), x.as_ptr(), x.len(), j.as_mut_ptr(), j.len(), times) }
+        let Case { text, chosen, places, columns, x, .. } = self;
+        unsafe { rows_jacobian(text.as_ptr(), text.len(), chosen.as_ptr(), chosen.len(), places.as_ptr(), places.len(), columns.as_ptr(), columns.len(), self.free.len(), x.as_ptr(), x.len(), j.as_mut_ptr(), j.len(), times) }
     }
 }
 
@@ -154,7 +207,9 @@ fn main() {
         let [s, d] = compare(&case(&mut ch, equations, count, kind, fixed));
         (same, differ, rows) = (same + s, differ + d, rows + (s + d) / 2);
     }
-    time(&mut ch);
+    if std::env::var_os("UNTIMED").is_none() {
+        time(&mut ch);
+    }
     println!("{same} same, {differ} differ");
     std::process::exit((differ > 0) as i32);
 }

@@ -1,22 +1,30 @@
--- Assumes nothing.
 use Prim.Native.Nat.{_≤_, _-_}
 use mathlib.Core.Path.{_≡_, refl}
-use lib.ListN.{length}
 use borrow.Author.Needs.{needs}
+use lib.ListN.{length}
+use Rattle.loops.specs.Turns.{upTo, upTo-next, upTo-done}
+use Rattle.rows.specs.Column.{laid}
+use Rattle.rows_c.specs.Sweeps.{jacobianAgain}
 use Rattle.rows_c.proofs.rows_jacobian.Statement.{statement}
 use Rattle.rows_c.proofs.rows_jacobian.Tie as tie
 
 abbrev Inv-loop : tie.InvT-loop
-Inv-loop words numbers ends chosen places columns free x j₀ times all spans n₀ counter₀ j n counter = (counter ≤ times) × (length j ≡ length j₀)
+Inv-loop text chosen places columns free x j₀ times equations lines n₀ counter₀ j n counter =
+    (counter ≤ times) × (length j ≡ length j₀)
+    × (upTo times counter (jacobianAgain equations lines chosen places columns free x) (laid n j) ≡ upTo times 0 (jacobianAgain equations lines chosen places columns free x) (laid n₀ j₀))
 
 abbrev μ-loop : tie.MeasureT-loop
-μ-loop words numbers ends chosen places columns free x j₀ times all spans n₀ counter₀ j n counter = times - counter
+μ-loop text chosen places columns free x j₀ times equations lines n₀ counter₀ j n counter = times - counter
 
 loop-holds : tie.Need-loop-holds Inv-loop μ-loop
-loop-holds c = (search needs, refl)
+loop-holds c = (search needs, refl, refl)
 
 loop-again : tie.Need-loop-again Inv-loop μ-loop
-loop-again c = (search needs, search needs)
+unfolding jacobianAgain
+loop-again c = (search needs, search needs, search (upTo-next, needs))
+
+returns : tie.Need-returns Inv-loop μ-loop
+returns c = rw (← (c .before .before .before .before .before .read .ensures)) (upTo-done _ _ _ _ _ (search needs) (c .before .loop .inv .2))
 
 pub rows-jacobian-spec : {M : Type 1} → statement M
 rows-jacobian-spec =
@@ -25,11 +33,10 @@ rows-jacobian-spec =
     Inv-loop
     μ-loop
     (λ c κs. search needs)
-    (λ c κs. search needs)
     loop-holds
     (λ c κs. search needs)
     (λ c. search needs)
     (λ c. search needs)
     loop-again
     (λ c. search needs)
-    (λ c. search needs))
+    returns)
