@@ -1,7 +1,7 @@
 -- Where a fit starts, at the head of 80 places. Assumes nothing.
 use Prim.Native.Nat.{ℕ, zero, suc, _-_, _*_, _≤_}
 use mathlib.Core.List.{List, _++_}
-use mathlib.Core.Path.{_≡_, refl, sym, ap, _∙_}
+use mathlib.Core.Path.{_≡_, _∙_}
 use native.Mathlib.Nat.{sub-zero, zero-sub, suc-sub-suc}
 use borrow.Author.Tests.{le-leb}
 use lib.Ieee.{Float}

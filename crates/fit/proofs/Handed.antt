@@ -8,10 +8,9 @@ use lib.Ieee.{Float}
 use lib.ListN.{length, replicate}
 use Rattle.floats.specs.Ops.{zero⁺}
 use Rattle.members.specs.Lists.{numbersOf}
-use Rattle.members.specs.Movable.{indicesOf}
 use Rattle.members.specs.declared.Listed.{Listed}
 use Rattle.rounds.specs.Holds.{fit-holds}
-use Rattle.rounds.specs.Problem.{rowCount, valuesAt, jacobianAt, problemOf}
+use Rattle.rounds.specs.Problem.{valuesAt}
 use Rattle.rounds.specs.Solve.{Outcome, converged, failed, within}
 use Rattle.sketch.specs.declared.Build.{Build}
 use Rattle.fit.specs.Fits.{Fits, short, refusal, outcomeIn, padded, fittedBy, convergedBy}

@@ -1,8 +1,8 @@
 -- From what the calls of a fit promise to its own promise. Assumes nothing.
 use Prim.Native.Nat.{ℕ, _-_, _*_, _≤_, min}
-use mathlib.Core.Bool.{Bool, true, false, cond, _||_}
-use mathlib.Core.List.{List, _++_, map}
-use mathlib.Core.Path.{_≡_, refl, sym, ap, _∙_}
+use mathlib.Core.Bool.{Bool, true, false, cond}
+use mathlib.Core.List.{List, _++_}
+use mathlib.Core.Path.{_≡_, sym, ap, _∙_}
 use native.Mathlib.Omega.{arith}
 use borrow.Author.Tests.{le-ltb}
 use lib.Ieee.{Float}
@@ -12,11 +12,11 @@ use Rattle.floats.specs.Ops.{zero⁺}
 use Rattle.groups.proofs.Counted.{taken}
 use Rattle.members.specs.Lists.{numbersOf}
 use Rattle.members.specs.Movable.{pointsAt, indicesOf}
-use Rattle.members.specs.Scale.{startOf, start-length}
+use Rattle.members.specs.Scale.{start-length}
 use Rattle.members.specs.Scale as scale
 use Rattle.fit.proofs.Begun.{begun, fewer}
 use Rattle.members.specs.declared.Listed.{Listed}
-use Rattle.rounds.specs.Promise.{Solves, outcomeOf, answeredBy, coordinatesOf, zeroed, saying, tooMany, tooShort}
+use Rattle.rounds.specs.Promise.{Solves, outcomeOf, answeredBy, coordinatesOf, zeroed, saying, tooMany}
 use Rattle.rounds.specs.Problem.{rowCount, valuesAt}
 use Rattle.rounds.specs.Solve.{Outcome, converged, failed}
 use Rattle.rounds.specs.declared.Ending.the-variants.{TooShort}

@@ -5,7 +5,7 @@ use lib.Ieee.{Float}
 use Rattle.groups.specs.Chains.{pointsIn, equationsIn}
 use Rattle.groups.specs.declared.Grouping.{Grouping}
 use Rattle.members.specs.Lists.{listedOf, numbersOf}
-use Rattle.members.specs.Movable.{pointsAt, freeFrom, coordinatesOf, indicesOf}
+use Rattle.members.specs.Movable.{pointsAt, freeFrom, coordinatesOf}
 use Rattle.members.specs.Scale.{startOf}
 use Rattle.members.specs.Tables.{placesOf, columnsOf}
 use Rattle.sketch.specs.declared.Build.{Build}

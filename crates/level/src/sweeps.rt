@@ -2,7 +2,7 @@
 ghost use mathlib.Core.Path.{_≡_};
 ghost use Prim.Native.Nat.{_+_, _*_, _<_, min};
 ghost use lib.Ieee.{nan};
-ghost use lib.ListN.{length, getD, take};
+ghost use lib.ListN.{getD, take};
 ghost use Rattle.level.specs.Level.{joinEquation, joined, levelPoint, levelPoints, levelAxis, levelOf};
 ghost use Rattle.level.specs.Parents.{Leaves, alone};
 use crate::parents::find;

@@ -1,5 +1,5 @@
 // How loops are said and proved: the definitions and laws of specs/, which every crate's contracts and proofs cite; and two questions
-// that a call on lent slices begins with.
+// about whole numbers that many rooms ask.
 ghost use mathlib.Core.Path.{_≡_};
 ghost use Prim.Native.Nat.{_*_, min};
 ghost use lib.Dec.{leb};
@@ -14,7 +14,7 @@ pub fn holds(len: usize, rows: usize, cols: usize) -> bool
     rows <= len / cols
 }
 
-// How far a loop goes that two counts bound.
+// The smaller number: how far a loop goes that two counts bound, a place that is within a table, the lower of two roots.
 pub fn smaller(a: usize, b: usize) -> usize
     ensures { λ r. ⌜ r ≡ min a b ⌝ }
 {

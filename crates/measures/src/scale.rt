@@ -1,7 +1,6 @@
 // The points in the coordinates of the equations, and where each of them stands there.
 ghost use mathlib.Core.Path.{_≡_};
 ghost use Prim.Native.Nat.{_<_, _≤_};
-ghost use lib.ListN.{length};
 ghost use Rattle.measures.specs.Scale.{scaleAt, scaledOf, inOrder};
 use plane::Vec2;
 

@@ -1,17 +1,17 @@
 -- From what the calls of a round, and of the rounds, promise to the definition. Assumes nothing.
 use Prim.Native.Nat.{ℕ, zero, suc, _+_, _-_, _*_, _≤_, _<_}
 use mathlib.Core.Bool.{Bool, true, false, not, cond, _||_}
-use mathlib.Core.List.{List, _++_, append-nil}
+use mathlib.Core.List.{List, append-nil}
 use mathlib.Core.Path.{_≡_, refl, sym, ap, _∙_}
 use native.Mathlib.Nat.{le-refl}
 use native.Mathlib.Omega.{arith}
 use borrow.Author.Tests.{le-leb}
 use lib.Dec.{eqb}
 use lib.Ieee.{Float}
-use lib.ListN.{length, drop, drop-of-length-le}
+use lib.ListN.{length, drop-of-length-le}
 use Rattle.loops.specs.Turns.{Try, go, stop}
 use Rattle.normal.specs.Normal.{productOf, productIn, diagMaxOf, diagMaxIn}
-use Rattle.rows.specs.Column.{Laid, laid}
+use Rattle.rows.specs.Column.{laid, laidIn}
 use Rattle.slopes.specs.Dense.{jacobianOf}
 use Rattle.sketch.specs.declared.Active.{Active}
 use Rattle.sketch.specs.declared.Line.{Line}
@@ -19,17 +19,13 @@ use Rattle.rounds.specs.Column.{table-is}
 use Rattle.rounds.specs.Held.{begunFit, polishedFit, stepBy, stepOf, endedOf}
 use Rattle.rounds.specs.Holds.{round-own}
 use Rattle.rounds.specs.Problem.{rowCount, jacobianAt, stateOf, triedOf}
-use Rattle.rounds.specs.Solve.{Problem, State, Trial, Tried, Outcome, converged, failed, within, judged, trialOf, tryOf, triesOf, orNext, better, taken, harder, begun, roundOf, roundsOf, ended, decided, done}
+use Rattle.rounds.specs.Solve.{Problem, State, Trial, Tried, Outcome, converged, within, judged, trialOf, tryOf, triesOf, orNext, better, taken, harder, begun, roundOf, roundsOf, ended, decided}
 use Rattle.rounds.specs.declared.Attempted.{Attempted}
-use Rattle.rounds.specs.declared.Ended.{Ended}
 use Rattle.rounds.specs.declared.Fit.{Fit}
 use Rattle.rounds.specs.declared.Step.{Step}
 use Rattle.rounds.proofs.Turn.{counted}
 
 -- ---- what a round begins with
-
-abbrev laidIn : Laid → List Float
-laidIn (laid n r) = r
 
 pub jacobian-found : (es : List Active) (ls : List Line) (places columns chosen : List ℕ) (nf n rows : ℕ) (x j j′ : List Float) → length chosen ≤ 40 → nf ≤ 80
     → rows ≡ rowCount es chosen → length j ≡ rows * nf → laid n j′ ≡ jacobianOf es ls places x columns nf chosen j

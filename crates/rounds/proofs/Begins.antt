@@ -1,9 +1,9 @@
 -- From what the calls of a fit's beginning promise to the definition. Assumes nothing.
-use Prim.Native.Nat.{ℕ, _+_, _*_, _≤_, _<_, _^_}
+use Prim.Native.Nat.{ℕ, _*_, _≤_}
 use mathlib.Core.Bool.{Bool, true, false, _||_}
 use mathlib.Core.List.{List, _++_}
 use mathlib.Core.Path.{_≡_, refl, sym, ap, _∙_}
-use native.Mathlib.Nat.{le-refl, mul-le-mul}
+use native.Mathlib.Nat.{mul-le-mul}
 use native.Mathlib.Omega.{arith}
 use borrow.Author.Tests.{ltb-false, eq-eqb, ne-eqb}
 use lib.Dec.{ltb}
@@ -13,7 +13,7 @@ use lib.Seq.{take-at, length-take-le}
 use mir.Syntax.{w64}
 use mir.Val.{Fits}
 use Rattle.floats.specs.Lists.{copiedOf}
-use Rattle.rows.specs.Column.{Laid, laid, columnOf}
+use Rattle.rows.specs.Column.{Laid, laid, columnOf, laidIn}
 use Rattle.sketch.specs.declared.Active.{Active}
 use Rattle.sketch.specs.declared.Line.{Line}
 use Rattle.solver.specs.Sums.{norm2Of}
@@ -51,9 +51,6 @@ module _ (P : Problem) (J : List Float → List Float) (x r : List Float) (own :
 
 abbrev count : Laid → ℕ
 count (laid n r) = n
-
-abbrev laidIn : Laid → List Float
-laidIn (laid n r) = r
 
 module _ (es : List Active) (ls : List Line) (places chosen : List ℕ) (x r r′ : List Float) (n : ℕ) (few : length chosen ≤ 40) (long : length r ≡ 80)
     (e : laid n r′ ≡ columnOf es ls places x chosen r) where

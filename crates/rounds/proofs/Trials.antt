@@ -1,19 +1,18 @@
 -- From what the calls of an attempt promise to the definition. Assumes nothing.
 use Prim.Native.Nat.{ℕ, _+_, _*_, _-_, _≤_}
-use mathlib.Core.Bool.{Bool, true, false, not, _&&_}
+use mathlib.Core.Bool.{Bool, true, false, not}
 use mathlib.Core.List.{List, [], _++_, append-nil}
-use mathlib.Core.Path.{_≡_, refl, sym, ap, _∙_}
+use mathlib.Core.Path.{_≡_, sym, ap, _∙_}
 use native.Mathlib.Nat.{le-refl}
 use native.Mathlib.Omega.{arith}
 use borrow.Author.Tests.{le-leb, le-ltb, not-true, not-false}
-use lib.Dec.{leb}
 use lib.Ieee.{Float}
 use lib.ListN.{length, take, drop, length-append, length-drop, drop-of-length-le}
 use lib.Seq.{take-all, take-at}
 use Rattle.floats.specs.Lists.{copiedOf}
 use Rattle.loops.specs.Turns.{Try, go, stop, tried}
 use Rattle.normal.specs.Normal.{dampedOf, dampedIn, movedOf, movedIn}
-use Rattle.solver.specs.Promise.{Solves, answerOf, rightAfter, checked, found, orZeros, solved}
+use Rattle.solver.specs.Promise.{Solves, checked, found, orZeros, solved}
 use Rattle.solver.specs.Steps.{solutionOf}
 use Rattle.solver.specs.declared.Elimination.{Elimination}
 use Rattle.solver.specs.declared.Elimination.the-variants.{TooMany, TooShort}

@@ -1,17 +1,17 @@
 -- From what the calls of a try, and of a round's tries, promise to the definition. Assumes nothing.
-use Prim.Native.Nat.{ℕ, zero, suc, _+_, _-_, _*_, _≤_, _<_}
+use Prim.Native.Nat.{ℕ, suc, _+_, _-_, _≤_, _<_}
 use mathlib.Core.Bool.{Bool, true, false, not, cond, _&&_}
-use mathlib.Core.List.{List, _++_, append-nil}
+use mathlib.Core.List.{List, append-nil}
 use mathlib.Core.Path.{_≡_, refl, sym, ap, _∙_}
 use native.Mathlib.Nat.{le-refl}
 use native.Mathlib.Omega.{arith}
 use borrow.Author.Tests.{not-true, not-false}
 use lib.Ieee.{Float, lt}
 use lib.Ieee.Scale.{finite}
-use lib.ListN.{length, drop, drop-of-length-le}
+use lib.ListN.{length, drop-of-length-le}
 use Rattle.floats.specs.Lists.{copiedOf}
 use Rattle.loops.specs.Turns.{Try, go, stop, tried}
-use Rattle.rows.specs.Column.{Laid, laid, columnOf}
+use Rattle.rows.specs.Column.{laid, columnOf, laidIn}
 use Rattle.sketch.specs.declared.Active.{Active}
 use Rattle.sketch.specs.declared.Line.{Line}
 use Rattle.solver.specs.Sums.{norm2Of}
@@ -24,9 +24,6 @@ use Rattle.rounds.specs.declared.Attempted.{Attempted}
 use Rattle.rounds.proofs.Trials.{copied-whole}
 
 -- ---- the residuals
-
-abbrev laidIn : Laid → List Float
-laidIn (laid n r) = r
 
 pub values-found : (es : List Active) (ls : List Line) (places chosen : List ℕ) (x r r′ : List Float) (n : ℕ) → length chosen ≤ 40
     → length r ≡ rowCount es chosen → laid n r′ ≡ columnOf es ls places x chosen r → r′ ≡ valuesAt es ls places chosen x

@@ -10,7 +10,7 @@ use lib.ListN.{length}
 use Rattle.loops.specs.Turns.{Try, go, stop, after}
 use Rattle.normal.specs.Normal.{productOf, diagMaxOf, dampedOf, movedOf}
 use Rattle.solver.specs.Steps.{solutionOf}
-use Rattle.rounds.specs.Solve.{Problem, State, Trial, Tried, Outcome, converged, failed, within, better, taken, harder, judged, orNext, trialAt, trialOf, tryOf, triesOf, begun, roundOf, polished, decided, ended, roundsOf, startOf, opened, solveOf}
+use Rattle.rounds.specs.Solve.{Problem, State, Tried, Outcome, converged, failed, within, better, taken, harder, judged, orNext, trialAt, trialOf, tryOf, triesOf, begun, roundOf, polished, decided, ended, roundsOf, startOf, opened, solveOf}
 
 module _ (P : Problem) (jacobian : List Float → List Float) where
   -- the residuals that the fit goes by are those of its coordinates

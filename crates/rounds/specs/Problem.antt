@@ -1,7 +1,7 @@
 -- The problem that chosen equations pose: equations.rs, `residuals`, and solver.rs, `dense`, as lists. `chosen` are the numbers of
 -- the equations, `places` and `columns` the tables of a point's place in the group and of a coordinate's among the free ones.
 use Prim.Native.Nat.{ℕ, _+_}
-use mathlib.Core.List.{List, [], map, flatMap}
+use mathlib.Core.List.{List, map, flatMap}
 use lib.Ieee.{Float}
 use lib.ListN.{replicate}
 use Rattle.floats.specs.Ops.{zero⁺}

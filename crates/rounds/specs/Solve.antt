@@ -1,7 +1,7 @@
 -- solver.rs, `solve`: the damped fit, with its iterations and tries counted. Its two loops are recursions on the rounds and on
 -- the tries that are left.
 use Prim.Native.Nat.{ℕ, zero, suc, _+_, _-_}
-use mathlib.Core.Bool.{Bool, true, false, not, cond, _&&_, _||_}
+use mathlib.Core.Bool.{Bool, true, false, cond, _&&_}
 use mathlib.Core.List.{List}
 use lib.Dec.{eqb}
 use lib.Ieee.{Float, le, lt}

@@ -1,7 +1,6 @@
 // A round, and the rounds.
 ghost use mathlib.Core.Path.{_≡_};
 ghost use Prim.Native.Nat.{_≤_};
-ghost use lib.ListN.{length};
 ghost use Rattle.rounds.specs.Held.{Shapes, Apt, stepOf, endedOf};
 ghost use Rattle.rounds.specs.Problem.{jacobianAt, problemOf, stateOf, triedOf};
 ghost use Rattle.rounds.specs.Solve.{within, roundOf, roundsOf};

@@ -18,6 +18,9 @@ use Rattle.rows.specs.Kinds.{rowsOfEquation}
 pub data Laid : Type 0 where
   laid : ℕ → List Float → Laid
 
+abbrev pub laidIn : Laid → List Float
+laidIn (laid i r) = r
+
 -- ---- the residual column
 
 unfoldable pub nextValue : Laid → Row → Laid

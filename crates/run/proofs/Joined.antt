@@ -3,7 +3,6 @@ use Prim.Native.Nat.{ℕ}
 use mathlib.Core.List.{List, []}
 use mathlib.Core.Path.{_≡_, _∙_}
 use lib.Ieee.{Float}
-use lib.ListN.{length}
 use Rattle.answer.specs.Endings.{refusedOf}
 use Rattle.answer.specs.declared.Answer.{Answer}
 use Rattle.job.specs.Promise.{Does}
@@ -11,7 +10,6 @@ use Rattle.reply.specs.Promise.{Writes}
 use Rattle.sketch.specs.declared.Build.{Build}
 use Rattle.sketch.specs.declared.Ending.{Ending}
 use Rattle.text.specs.Reader.{readOf}
-use Rattle.text.specs.declared.Outcome.{Outcome}
 use Rattle.text.specs.declared.Outcome.the-variants.{Read, Ends}
 use Rattle.text.specs.declared.Reading.{Reading}
 use Rattle.run.specs.Promise.{room, replyBuild, RunsBuild, Runs}

@@ -1,5 +1,4 @@
 // A job's text in, its reply out (document 01, "The text"). Nothing is refused but in the reply's own words.
-ghost use mathlib.Core.Path.{_≡_};
 ghost use Rattle.run.specs.Promise.{Runs, RunsBuild};
 use sketch::Build;
 use text::Outcome;

@@ -1,5 +1,4 @@
 // A job on a text, for programs in C and in Rust: tests/job/sakiromuk.h and tests/job/sakiromuk.rs say how it is called.
-ghost use mathlib.Core.Path.{_≡_};
 ghost use Rattle.run.specs.Promise.{Runs};
 
 #[no_mangle]

@@ -1,7 +1,6 @@
 -- The points an equation touches, in the Rust's order (equations.rs, `involved`): a line equation both its line's ends,
 -- held none.
 use mathlib.Core.List.{List, [], _∷_, _++_}
-use Prim.Native.Nat.{ℕ}
 use lib.ListN.{length, getD}
 use Rattle.sketch.specs.declared.Equation.{Equation}
 use Rattle.sketch.specs.declared.Line.{Line}

@@ -1,7 +1,7 @@
 // The points that an equation touches.
 ghost use mathlib.Core.Path.{_≡_};
 ghost use mathlib.Core.List.{_∷_, [], _++_};
-ghost use Rattle.sketch.specs.Involved.{involvedOf, touchedOf, lineAt, centred, noPoint};
+ghost use Rattle.sketch.specs.Involved.{involvedOf, touchedOf, lineAt, centred};
 use crate::Equation;
 use crate::Line;
 use crate::LineNo;

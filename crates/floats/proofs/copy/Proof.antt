@@ -1,8 +1,8 @@
 -- The loop ends where the shorter of the two does. Assumes nothing.
 use Prim.Native.Nat.{ℕ, _-_, _≤_, _<_, min}
-use mathlib.Core.List.{List, _++_, map, map-id, append-nil}
+use mathlib.Core.List.{List, _++_, map, map-id}
 use mathlib.Core.Bool.{Bool, true, false}
-use mathlib.Core.Path.{_≡_, refl, _∙_, sym}
+use mathlib.Core.Path.{_≡_, refl, _∙_}
 use native.Mathlib.Nat.{le-antisymm, min-le-left, min-le-right, le-of-lt, le-refl, min-eq-left, min-eq-right}
 use native.Mathlib.Omega.{arith}
 use borrow.Author.Needs.{needs}

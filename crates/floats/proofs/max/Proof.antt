@@ -1,8 +1,7 @@
 -- Assumes nothing.
-use mathlib.Core.Path.{_≡_, refl, subst, sym}
-use mathlib.Core.Bool.{Bool, true, false}
-use lib.Dec.{T}
-use lib.Ieee.{Float, nan, inf, fin, lt, ne, isNan}
+use mathlib.Core.Path.{_≡_, refl}
+use mathlib.Core.Bool.{false}
+use lib.Ieee.{Float, nan, inf, fin, ne, isNan}
 use Rattle.floats.specs.Magnitude.{maxOf}
 use Rattle.floats.proofs.Values.{only-nan, no-nan}
 use Rattle.floats.proofs.max.Statement.{statement}

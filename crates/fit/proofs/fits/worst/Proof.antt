@@ -11,16 +11,7 @@ use Rattle.fit.proofs.Shows.{worst-is}
 use borrow.Author.Needs.{needs}
 use Rattle.fit.proofs.fits.worst.Statement.{statement}
 use Rattle.fit.proofs.fits.worst.Tie as tie
-use Rattle.fit.proofs.fits.worst.Reads as reads
-use Rattle.fit.proofs.fits.worst.Lts as lts
-use Rattle.rows.proofs.residuals.Reads as residuals-reads
-use Rattle.solver.proofs.max_abs.Reads as max-abs-reads
 
--- src/fits.rt:71:9
-smaller-requires : tie.Need-smaller-requires
-smaller-requires c κs = search needs
-
--- src/fits.rt:76:47
 array-share-prefix-items : tie.Need-array-share-prefix-items
 array-share-prefix-items c =
     let k = c .before .before .before in
@@ -28,7 +19,6 @@ array-share-prefix-items c =
     let n : length (s .args .f .equations .items) ≡ 40 = sized 40 (s .args .f .equations .items) (s .good .1 .0 .1 .1 .1 .0 .1 .1 .0 .1 .0 .1) in
     omega (arith, k .smaller .ensures, n)
 
--- src/fits.rt:76:47
 slice-aggregate-residuals : tie.Need-slice-aggregate-residuals
 slice-aggregate-residuals c =
     let k = c .before .before .before .before in
@@ -36,19 +26,6 @@ slice-aggregate-residuals c =
     let n : length (s .args .f .equations .items) ≡ 40 = sized 40 (s .args .f .equations .items) (s .good .1 .0 .1 .1 .1 .0 .1 .1 .0 .1 .0 .1) in
     front (k .smaller .result) (s .args .f .equations .items) (omega (arith, k .smaller .ensures, n))
 
--- src/fits.rt:76:60
-slice-aggregate-residuals-2 : tie.Need-slice-aggregate-residuals-2
-slice-aggregate-residuals-2 c = search needs
-
--- src/fits.rt:76:72
-slice-aggregate-residuals-3 : tie.Need-slice-aggregate-residuals-3
-slice-aggregate-residuals-3 c = search needs
-
--- src/fits.rt:76:9
-residuals-requires : tie.Need-residuals-requires
-residuals-requires c κs = search needs
-
--- src/fits.rt:77:21
 array-share-prefix-r : tie.Need-array-share-prefix-r
 array-share-prefix-r c =
     let r = c .before in
@@ -59,7 +36,6 @@ array-share-prefix-r c =
     rw (r .residuals .kept .1 .1 .1 .1 .1 .0) (at-most (s .args .b .equations) (s .args .b .lines) (s .args .f .places) (take (k .smaller .result) (s .args .f .equations .items)) (s .args .x .now) (replicate 80 zero⁺)
     (r .residuals .last .1 .1 .1 .1 .1 .0) (r .residuals .result) few refl (r .residuals .ensures))
 
--- src/fits.rt:77:21
 slice-aggregate-max-abs : tie.Need-slice-aggregate-max-abs
 slice-aggregate-max-abs c =
     let r = c .before .before in
@@ -70,11 +46,6 @@ slice-aggregate-max-abs c =
     front (r .residuals .result) (r .residuals .last .1 .1 .1 .1 .1 .0) (rw (r .residuals .kept .1 .1 .1 .1 .1 .0) (at-most (s .args .b .equations) (s .args .b .lines) (s .args .f .places) (take (k .smaller .result) (s .args .f .equations .items)) (s .args .x .now) (replicate 80 zero⁺)
     (r .residuals .last .1 .1 .1 .1 .1 .0) (r .residuals .result) few refl (r .residuals .ensures)))
 
--- src/fits.rt:77:5
-max-abs-requires : tie.Need-max-abs-requires
-max-abs-requires c κs = search needs
-
--- src/fits.rt:66:1
 returns : tie.Need-returns
 returns c =
     let m = c in
@@ -91,13 +62,13 @@ pub worst-spec : {M : Type 1} → statement M
 worst-spec =
     tie.close
     (tie.spec
-    smaller-requires
+    (λ c κs. search needs)
     array-share-prefix-items
     slice-aggregate-residuals
-    slice-aggregate-residuals-2
-    slice-aggregate-residuals-3
-    residuals-requires
+    (λ c. search needs)
+    (λ c. search needs)
+    (λ c κs. search needs)
     array-share-prefix-r
     slice-aggregate-max-abs
-    max-abs-requires
+    (λ c κs. search needs)
     returns)

@@ -2,38 +2,7 @@ use borrow.Author.Needs.{needs}
 use Rattle.rounds.proofs.Trials.{eliminated-is}
 use Rattle.rounds.proofs.attempt.eliminated.Statement.{statement}
 use Rattle.rounds.proofs.attempt.eliminated.Tie as tie
-use Rattle.rounds.proofs.attempt.eliminated.Reads as reads
-use Rattle.rounds.proofs.attempt.eliminated.Lts as lts
-use Rattle.rounds.proofs.attempt.is_solved.Reads as is-solved-reads
-use Rattle.floats.proofs.copy.Reads as copy-reads
-use Rattle.normal.proofs.damped.Reads as damped-reads
-use Rattle.solver.proofs.solve_dense.Reads as solve-dense-reads
 
--- src/attempt.rt:27:5
-damped-requires : tie.Need-damped-requires
-damped-requires c κs = search needs
-
--- src/attempt.rt:28:5
-copy-requires : tie.Need-copy-requires
-copy-requires c κs = search needs
-
--- src/attempt.rt:29:15
-solve-dense-requires : tie.Need-solve-dense-requires
-solve-dense-requires c κs = search needs
-
--- src/attempt.rt:29:5
-is-solved-requires : tie.Need-is-solved-requires
-is-solved-requires c κs = search needs
-
--- src/attempt.rt:23:1
-same-length : tie.Need-same-length
-same-length c = search needs
-
--- src/attempt.rt:23:1
-same-length-2 : tie.Need-same-length-2
-same-length-2 c = search needs
-
--- src/attempt.rt:23:1
 returns : tie.Need-returns
 returns c =
     let d = c .before .before .before .before .before in
@@ -48,10 +17,10 @@ pub eliminated-spec : {M : Type 1} → statement M
 eliminated-spec =
     tie.close
     (tie.spec
-    damped-requires
-    copy-requires
-    solve-dense-requires
-    is-solved-requires
-    same-length
-    same-length-2
+    (λ c κs. search needs)
+    (λ c κs. search needs)
+    (λ c κs. search needs)
+    (λ c κs. search needs)
+    (λ c. search needs)
+    (λ c. search needs)
     returns)

@@ -2,19 +2,7 @@ use borrow.Author.Needs.{needs}
 use Rattle.rounds.proofs.Turn.{values-found}
 use Rattle.rounds.proofs.attempt.values_at.Statement.{statement}
 use Rattle.rounds.proofs.attempt.values_at.Tie as tie
-use Rattle.rounds.proofs.attempt.values_at.Reads as reads
-use Rattle.rounds.proofs.attempt.values_at.Lts as lts
-use Rattle.rows.proofs.residuals.Reads as residuals-reads
 
--- src/attempt.rt:56:5
-residuals-requires : tie.Need-residuals-requires
-residuals-requires c κs = search needs
-
--- src/attempt.rt:45:1
-same-length : tie.Need-same-length
-same-length c = search needs
-
--- src/attempt.rt:45:1
 returns : tie.Need-returns
 returns c =
     let k = c .before .before in
@@ -23,4 +11,4 @@ returns c =
     (k .residuals .last .1 .1 .1 .1 .1 .0) (k .residuals .result) (s .pre .0) (s .pre .1) (k .residuals .ensures)
 
 pub values-at-spec : {M : Type 1} → statement M
-values-at-spec = tie.close (tie.spec residuals-requires same-length returns)
+values-at-spec = tie.close (tie.spec (λ c κs. search needs) (λ c. search needs) returns)

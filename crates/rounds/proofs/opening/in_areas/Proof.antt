@@ -11,21 +11,7 @@ use Rattle.rounds.proofs.Begins.{counted, at-most, values-first, table-
 use borrow.Author.Needs.{needs}
 use Rattle.rounds.proofs.opening.in_areas.Statement.{statement}
 use Rattle.rounds.proofs.opening.in_areas.Tie as tie
-use Rattle.rounds.proofs.opening.in_areas.Reads as reads
-use Rattle.rounds.proofs.opening.in_areas.Lts as lts
-use Rattle.floats.proofs.clear.Reads as clear-reads
-use Rattle.rounds.proofs.opening.opened.Reads as opened-reads
-use Rattle.rows.proofs.residuals.Reads as residuals-reads
 
--- src/opening.rt:83:69
-slice-aggregate-residuals : tie.Need-slice-aggregate-residuals
-slice-aggregate-residuals c = search needs
-
--- src/opening.rt:83:9
-residuals-requires : tie.Need-residuals-requires
-residuals-requires c κs = search needs
-
--- src/opening.rt:86:16
 mul-size : tie.Need-mul-size
 mul-size c =
     let k = c .before in
@@ -33,7 +19,6 @@ mul-size c =
     let few = at-most (s .args .equations) (s .args .lines) (s .args .places .now) (s .args .chosen .now) (s .args .x .now) (replicate 80 zero⁺) (k .residuals .last .1 .1 .1 .1 .1 .0) (k .residuals .result) (s .pre .0) refl (k .residuals .ensures) in
     table-fits (k .residuals .result) (length (s .args .free .now)) few (s .pre .1)
 
--- src/opening.rt:87:18
 mul-square : tie.Need-mul-square
 mul-square c =
     let k = c .before in
@@ -41,7 +26,6 @@ mul-square c =
     let few = at-most (s .args .equations) (s .args .lines) (s .args .places .now) (s .args .chosen .now) (s .args .x .now) (replicate 80 zero⁺) (k .residuals .last .1 .1 .1 .1 .1 .0) (k .residuals .result) (s .pre .0) refl (k .residuals .ensures) in
     table-fits (k .residuals .result) (k .residuals .result) few few
 
--- src/opening.rt:96:9
 array-borrow-prefix-r : tie.Need-array-borrow-prefix-r
 array-borrow-prefix-r c =
     let k = c .before .before in
@@ -49,7 +33,6 @@ array-borrow-prefix-r c =
     let few = at-most (s .args .equations) (s .args .lines) (s .args .places .now) (s .args .chosen .now) (s .args .x .now) (replicate 80 zero⁺) (k .residuals .last .1 .1 .1 .1 .1 .0) (k .residuals .result) (s .pre .0) refl (k .residuals .ensures) in
     rw (k .residuals .kept .1 .1 .1 .1 .1 .0) few
 
--- src/opening.rt:96:9
 slice-aggregate-opened : tie.Need-slice-aggregate-opened
 slice-aggregate-opened c =
     let k = c .before .before .before in
@@ -58,7 +41,6 @@ slice-aggregate-opened c =
     let room : k .residuals .result ≤ length (k .residuals .last .1 .1 .1 .1 .1 .0) = rw (k .residuals .kept .1 .1 .1 .1 .1 .0) few in
     front (k .residuals .result) (k .residuals .last .1 .1 .1 .1 .1 .0) room
 
--- src/opening.rt:97:9
 slice-relend-prefix-opened : tie.Need-slice-relend-prefix-opened
 slice-relend-prefix-opened c =
     let k = c .before .before .before in
@@ -66,7 +48,6 @@ slice-relend-prefix-opened c =
     let few = at-most (s .args .equations) (s .args .lines) (s .args .places .now) (s .args .chosen .now) (s .args .x .now) (replicate 80 zero⁺) (k .residuals .last .1 .1 .1 .1 .1 .0) (k .residuals .result) (s .pre .0) refl (k .residuals .ensures) in
     fits-in (k .residuals .result) (length (s .args .free .now)) (length (s .args .a .now)) few (s .pre .1) (s .pre .3)
 
--- src/opening.rt:97:9
 slice-aggregate-opened-2 : tie.Need-slice-aggregate-opened-2
 slice-aggregate-opened-2 c =
     let k = c .before .before .before .before in
@@ -74,7 +55,6 @@ slice-aggregate-opened-2 c =
     let few = at-most (s .args .equations) (s .args .lines) (s .args .places .now) (s .args .chosen .now) (s .args .x .now) (replicate 80 zero⁺) (k .residuals .last .1 .1 .1 .1 .1 .0) (k .residuals .result) (s .pre .0) refl (k .residuals .ensures) in
     front (k .residuals .result * length (s .args .free .now)) (s .args .a .now) (fits-in (k .residuals .result) (length (s .args .free .now)) (length (s .args .a .now)) few (s .pre .1) (s .pre .3))
 
--- src/opening.rt:98:9
 slice-relend-prefix-opened-2 : tie.Need-slice-relend-prefix-opened-2
 slice-relend-prefix-opened-2 c =
     let k = c .before .before .before .before in
@@ -82,7 +62,6 @@ slice-relend-prefix-opened-2 c =
     let few = at-most (s .args .equations) (s .args .lines) (s .args .places .now) (s .args .chosen .now) (s .args .x .now) (replicate 80 zero⁺) (k .residuals .last .1 .1 .1 .1 .1 .0) (k .residuals .result) (s .pre .0) refl (k .residuals .ensures) in
     fits-in (k .residuals .result) (k .residuals .result) (length (s .args .b .now)) few few (s .pre .4)
 
--- src/opening.rt:98:9
 slice-aggregate-opened-3 : tie.Need-slice-aggregate-opened-3
 slice-aggregate-opened-3 c =
     let k = c .before .before .before .before .before in
@@ -90,7 +69,6 @@ slice-aggregate-opened-3 c =
     let few = at-most (s .args .equations) (s .args .lines) (s .args .places .now) (s .args .chosen .now) (s .args .x .now) (replicate 80 zero⁺) (k .residuals .last .1 .1 .1 .1 .1 .0) (k .residuals .result) (s .pre .0) refl (k .residuals .ensures) in
     front (k .residuals .result * k .residuals .result) (s .args .b .now) (fits-in (k .residuals .result) (k .residuals .result) (length (s .args .b .now)) few few (s .pre .4))
 
--- src/opening.rt:99:9
 slice-relend-prefix-opened-3 : tie.Need-slice-relend-prefix-opened-3
 slice-relend-prefix-opened-3 c =
     let k = c .before .before .before .before .before in
@@ -98,7 +76,6 @@ slice-relend-prefix-opened-3 c =
     let few = at-most (s .args .equations) (s .args .lines) (s .args .places .now) (s .args .chosen .now) (s .args .x .now) (replicate 80 zero⁺) (k .residuals .last .1 .1 .1 .1 .1 .0) (k .residuals .result) (s .pre .0) refl (k .residuals .ensures) in
     fits-in (k .residuals .result) (k .residuals .result) (length (s .args .c .now)) few few (s .pre .5)
 
--- src/opening.rt:99:9
 slice-aggregate-opened-4 : tie.Need-slice-aggregate-opened-4
 slice-aggregate-opened-4 c =
     let k = c .before .before .before .before .before .before in
@@ -106,7 +83,6 @@ slice-aggregate-opened-4 c =
     let few = at-most (s .args .equations) (s .args .lines) (s .args .places .now) (s .args .chosen .now) (s .args .x .now) (replicate 80 zero⁺) (k .residuals .last .1 .1 .1 .1 .1 .0) (k .residuals .result) (s .pre .0) refl (k .residuals .ensures) in
     front (k .residuals .result * k .residuals .result) (s .args .c .now) (fits-in (k .residuals .result) (k .residuals .result) (length (s .args .c .now)) few few (s .pre .5))
 
--- src/opening.rt:100:9
 array-borrow-prefix-y : tie.Need-array-borrow-prefix-y
 array-borrow-prefix-y c =
     let k = c .before .before .before .before .before .before in
@@ -114,7 +90,6 @@ array-borrow-prefix-y c =
     let few = at-most (s .args .equations) (s .args .lines) (s .args .places .now) (s .args .chosen .now) (s .args .x .now) (replicate 80 zero⁺) (k .residuals .last .1 .1 .1 .1 .1 .0) (k .residuals .result) (s .pre .0) refl (k .residuals .ensures) in
     few
 
--- src/opening.rt:100:9
 slice-aggregate-opened-5 : tie.Need-slice-aggregate-opened-5
 slice-aggregate-opened-5 c =
     let k = c .before .before .before .before .before .before .before in
@@ -122,17 +97,11 @@ slice-aggregate-opened-5 c =
     let few = at-most (s .args .equations) (s .args .lines) (s .args .places .now) (s .args .chosen .now) (s .args .x .now) (replicate 80 zero⁺) (k .residuals .last .1 .1 .1 .1 .1 .0) (k .residuals .result) (s .pre .0) refl (k .residuals .ensures) in
     front (k .residuals .result) (replicate 80 zero⁺) few
 
--- src/opening.rt:101:9
-array-borrow-prefix-xn : tie.Need-array-borrow-prefix-xn
-array-borrow-prefix-xn c = search needs
-
--- src/opening.rt:101:9
 slice-aggregate-opened-6 : tie.Need-slice-aggregate-opened-6
 slice-aggregate-opened-6 c =
     let s = c .before .before .before .before .before .before .before .before .before .before .before .before .before .before .before .before .before .before .before in
     front (length (s .args .x .now)) (replicate 80 zero⁺) (s .pre .2)
 
--- src/opening.rt:102:9
 array-borrow-prefix-rn : tie.Need-array-borrow-prefix-rn
 array-borrow-prefix-rn c =
     let k = c .before .before .before .before .before .before .before .before in
@@ -140,7 +109,6 @@ array-borrow-prefix-rn c =
     let few = at-most (s .args .equations) (s .args .lines) (s .args .places .now) (s .args .chosen .now) (s .args .x .now) (replicate 80 zero⁺) (k .residuals .last .1 .1 .1 .1 .1 .0) (k .residuals .result) (s .pre .0) refl (k .residuals .ensures) in
     few
 
--- src/opening.rt:102:9
 slice-aggregate-opened-7 : tie.Need-slice-aggregate-opened-7
 slice-aggregate-opened-7 c =
     let k = c .before .before .before .before .before .before .before .before .before in
@@ -148,7 +116,6 @@ slice-aggregate-opened-7 c =
     let few = at-most (s .args .equations) (s .args .lines) (s .args .places .now) (s .args .chosen .now) (s .args .x .now) (replicate 80 zero⁺) (k .residuals .last .1 .1 .1 .1 .1 .0) (k .residuals .result) (s .pre .0) refl (k .residuals .ensures) in
     front (k .residuals .result) (replicate 80 zero⁺) few
 
--- src/opening.rt:88:9
 opened-requires : tie.Need-opened-requires
 opened-requires c κs =
     let k = c .before .before .before .before .before .before .before .before .before in
@@ -171,7 +138,6 @@ opened-requires c κs =
       record { own = values-first (s .args .equations) (s .args .lines) (s .args .places .now) (s .args .chosen .now) (s .args .x .now) (replicate 80 zero⁺) (k .residuals .last .1 .1 .1 .1 .1 .0) (k .residuals .result) (s .pre .0) refl (k .residuals .ensures); narrow = s .pre .1 },
     )
 
--- src/opening.rt:106:19
 slice-relend-prefix-clear : tie.Need-slice-relend-prefix-clear
 slice-relend-prefix-clear c =
     let o = c .before .before .before .before .before .before .before .before .before .before .before .before in
@@ -180,7 +146,6 @@ slice-relend-prefix-clear c =
     let few = at-most (s .args .equations) (s .args .lines) (s .args .places .now) (s .args .chosen .now) (s .args .x .now) (replicate 80 zero⁺) (k .residuals .last .1 .1 .1 .1 .1 .0) (k .residuals .result) (s .pre .0) refl (k .residuals .ensures) in
     still-fits (k .residuals .result * length (s .args .free .now)) (s .args .a .now) (o .opened .last .1 .1 .1 .1 .1 .1 .1 .1 .0) (fits-in (k .residuals .result) (length (s .args .free .now)) (length (s .args .a .now)) few (s .pre .1) (s .pre .3)) (o .opened .kept .1 .1 .1 .1 .1 .1 .1 .1 .0)
 
--- src/opening.rt:106:19
 slice-aggregate-clear : tie.Need-slice-aggregate-clear
 slice-aggregate-clear c =
     let o = c .before .before .before .before .before .before .before .before .before .before .before .before .before in
@@ -189,11 +154,6 @@ slice-aggregate-clear c =
     let few = at-most (s .args .equations) (s .args .lines) (s .args .places .now) (s .args .chosen .now) (s .args .x .now) (replicate 80 zero⁺) (k .residuals .last .1 .1 .1 .1 .1 .0) (k .residuals .result) (s .pre .0) refl (k .residuals .ensures) in
     front (k .residuals .result * length (s .args .free .now)) ((o .opened .last .1 .1 .1 .1 .1 .1 .1 .1 .0) ++ drop (k .residuals .result * length (s .args .free .now)) (s .args .a .now)) (still-fits (k .residuals .result * length (s .args .free .now)) (s .args .a .now) (o .opened .last .1 .1 .1 .1 .1 .1 .1 .1 .0) (fits-in (k .residuals .result) (length (s .args .free .now)) (length (s .args .a .now)) few (s .pre .1) (s .pre .3)) (o .opened .kept .1 .1 .1 .1 .1 .1 .1 .1 .0))
 
--- src/opening.rt:106:5
-clear-requires : tie.Need-clear-requires
-clear-requires c κs = search needs
-
--- src/opening.rt:107:19
 slice-relend-prefix-clear-2 : tie.Need-slice-relend-prefix-clear-2
 slice-relend-prefix-clear-2 c =
     let o = c .before .before .before .before .before .before .before .before .before .before .before .before .before .before .before .before in
@@ -202,7 +162,6 @@ slice-relend-prefix-clear-2 c =
     let few = at-most (s .args .equations) (s .args .lines) (s .args .places .now) (s .args .chosen .now) (s .args .x .now) (replicate 80 zero⁺) (k .residuals .last .1 .1 .1 .1 .1 .0) (k .residuals .result) (s .pre .0) refl (k .residuals .ensures) in
     still-fits (k .residuals .result * k .residuals .result) (s .args .b .now) (o .opened .last .1 .1 .1 .1 .1 .1 .1 .1 .1 .0) (fits-in (k .residuals .result) (k .residuals .result) (length (s .args .b .now)) few few (s .pre .4)) (o .opened .kept .1 .1 .1 .1 .1 .1 .1 .1 .1 .0)
 
--- src/opening.rt:107:19
 slice-aggregate-clear-2 : tie.Need-slice-aggregate-clear-2
 slice-aggregate-clear-2 c =
     let o = c .before .before .before .before .before .before .before .before .before .before .before .before .before .before .before .before .before in
@@ -211,11 +170,6 @@ slice-aggregate-clear-2 c =
     let few = at-most (s .args .equations) (s .args .lines) (s .args .places .now) (s .args .chosen .now) (s .args .x .now) (replicate 80 zero⁺) (k .residuals .last .1 .1 .1 .1 .1 .0) (k .residuals .result) (s .pre .0) refl (k .residuals .ensures) in
     front (k .residuals .result * k .residuals .result) ((o .opened .last .1 .1 .1 .1 .1 .1 .1 .1 .1 .0) ++ drop (k .residuals .result * k .residuals .result) (s .args .b .now)) (still-fits (k .residuals .result * k .residuals .result) (s .args .b .now) (o .opened .last .1 .1 .1 .1 .1 .1 .1 .1 .1 .0) (fits-in (k .residuals .result) (k .residuals .result) (length (s .args .b .now)) few few (s .pre .4)) (o .opened .kept .1 .1 .1 .1 .1 .1 .1 .1 .1 .0))
 
--- src/opening.rt:107:5
-clear-requires-2 : tie.Need-clear-requires-2
-clear-requires-2 c κs = search needs
-
--- src/opening.rt:108:19
 slice-relend-prefix-clear-3 : tie.Need-slice-relend-prefix-clear-3
 slice-relend-prefix-clear-3 c =
     let o = c .before .before .before .before .before .before .before .before .before .before .before .before .before .before .before .before .before .before .before .before in
@@ -224,7 +178,6 @@ slice-relend-prefix-clear-3 c =
     let few = at-most (s .args .equations) (s .args .lines) (s .args .places .now) (s .args .chosen .now) (s .args .x .now) (replicate 80 zero⁺) (k .residuals .last .1 .1 .1 .1 .1 .0) (k .residuals .result) (s .pre .0) refl (k .residuals .ensures) in
     still-fits (k .residuals .result * k .residuals .result) (s .args .c .now) (o .opened .last .1 .1 .1 .1 .1 .1 .1 .1 .1 .1 .0) (fits-in (k .residuals .result) (k .residuals .result) (length (s .args .c .now)) few few (s .pre .5)) (o .opened .kept .1 .1 .1 .1 .1 .1 .1 .1 .1 .1 .0)
 
--- src/opening.rt:108:19
 slice-aggregate-clear-3 : tie.Need-slice-aggregate-clear-3
 slice-aggregate-clear-3 c =
     let o = c .before .before .before .before .before .before .before .before .before .before .before .before .before .before .before .before .before .before .before .before .before in
@@ -233,15 +186,6 @@ slice-aggregate-clear-3 c =
     let few = at-most (s .args .equations) (s .args .lines) (s .args .places .now) (s .args .chosen .now) (s .args .x .now) (replicate 80 zero⁺) (k .residuals .last .1 .1 .1 .1 .1 .0) (k .residuals .result) (s .pre .0) refl (k .residuals .ensures) in
     front (k .residuals .result * k .residuals .result) ((o .opened .last .1 .1 .1 .1 .1 .1 .1 .1 .1 .1 .0) ++ drop (k .residuals .result * k .residuals .result) (s .args .c .now)) (still-fits (k .residuals .result * k .residuals .result) (s .args .c .now) (o .opened .last .1 .1 .1 .1 .1 .1 .1 .1 .1 .1 .0) (fits-in (k .residuals .result) (k .residuals .result) (length (s .args .c .now)) few few (s .pre .5)) (o .opened .kept .1 .1 .1 .1 .1 .1 .1 .1 .1 .1 .0))
 
--- src/opening.rt:108:5
-clear-requires-3 : tie.Need-clear-requires-3
-clear-requires-3 c κs = search needs
-
--- src/opening.rt:60:1
-same-length : tie.Need-same-length
-same-length c = search needs
-
--- src/opening.rt:60:1
 same-length-2 : tie.Need-same-length-2
 same-length-2 c =
     let z = c .before .before .before .before .before .before .before .before .before .before in
@@ -250,7 +194,6 @@ same-length-2 c =
     let s = k .before .before .before .before .before .before .before .before .before .before .before in
     length-front ((o .opened .last .1 .1 .1 .1 .1 .1 .1 .1 .0) ++ drop (k .residuals .result * length (s .args .free .now)) (s .args .a .now)) (z .clear .last .0) (k .residuals .result * length (s .args .free .now)) (z .clear .kept .0) ∙ length-front (s .args .a .now) (o .opened .last .1 .1 .1 .1 .1 .1 .1 .1 .0) (k .residuals .result * length (s .args .free .now)) (o .opened .kept .1 .1 .1 .1 .1 .1 .1 .1 .0)
 
--- src/opening.rt:60:1
 same-length-3 : tie.Need-same-length-3
 same-length-3 c =
     let z = c .before .before .before .before .before .before in
@@ -259,7 +202,6 @@ same-length-3 c =
     let s = k .before .before .before .before .before .before .before .before .before .before .before in
     length-front ((o .opened .last .1 .1 .1 .1 .1 .1 .1 .1 .1 .0) ++ drop (k .residuals .result * k .residuals .result) (s .args .b .now)) (z .clear2 .last .0) (k .residuals .result * k .residuals .result) (z .clear2 .kept .0) ∙ length-front (s .args .b .now) (o .opened .last .1 .1 .1 .1 .1 .1 .1 .1 .1 .0) (k .residuals .result * k .residuals .result) (o .opened .kept .1 .1 .1 .1 .1 .1 .1 .1 .1 .0)
 
--- src/opening.rt:60:1
 same-length-4 : tie.Need-same-length-4
 same-length-4 c =
     let z = c .before .before in
@@ -268,7 +210,6 @@ same-length-4 c =
     let s = k .before .before .before .before .before .before .before .before .before .before .before in
     length-front ((o .opened .last .1 .1 .1 .1 .1 .1 .1 .1 .1 .1 .0) ++ drop (k .residuals .result * k .residuals .result) (s .args .c .now)) (z .clear3 .last .0) (k .residuals .result * k .residuals .result) (z .clear3 .kept .0) ∙ length-front (s .args .c .now) (o .opened .last .1 .1 .1 .1 .1 .1 .1 .1 .1 .1 .0) (k .residuals .result * k .residuals .result) (o .opened .kept .1 .1 .1 .1 .1 .1 .1 .1 .1 .1 .0)
 
--- src/opening.rt:60:1
 returns : tie.Need-returns
 returns c =
     let w = c .before .before in
@@ -289,8 +230,8 @@ pub in-areas-spec : {M : Type 1} → statement M
 in-areas-spec =
     tie.close
     (tie.spec
-    slice-aggregate-residuals
-    residuals-requires
+    (λ c. search needs)
+    (λ c κs. search needs)
     mul-size
     mul-square
     array-borrow-prefix-r
@@ -303,21 +244,21 @@ in-areas-spec =
     slice-aggregate-opened-4
     array-borrow-prefix-y
     slice-aggregate-opened-5
-    array-borrow-prefix-xn
+    (λ c. search needs)
     slice-aggregate-opened-6
     array-borrow-prefix-rn
     slice-aggregate-opened-7
     opened-requires
     slice-relend-prefix-clear
     slice-aggregate-clear
-    clear-requires
+    (λ c κs. search needs)
     slice-relend-prefix-clear-2
     slice-aggregate-clear-2
-    clear-requires-2
+    (λ c κs. search needs)
     slice-relend-prefix-clear-3
     slice-aggregate-clear-3
-    clear-requires-3
-    same-length
+    (λ c κs. search needs)
+    (λ c. search needs)
     same-length-2
     same-length-3
     same-length-4

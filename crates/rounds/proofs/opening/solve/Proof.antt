@@ -8,18 +8,7 @@ use Rattle.rounds.proofs.Begins.{none-many, none-short, copied-front, c
 use borrow.Author.Needs.{needs}
 use Rattle.rounds.proofs.opening.solve.Statement.{statement}
 use Rattle.rounds.proofs.opening.solve.Tie as tie
-use Rattle.rounds.proofs.opening.solve.Reads as reads
-use Rattle.rounds.proofs.opening.solve.Lts as lts
-use Rattle.floats.proofs.copy.Reads as copy-reads
-use Rattle.rounds.proofs.opening.answer.Reads as answer-reads
-use Rattle.rounds.proofs.opening.in_areas.Reads as in-areas-reads
-use Rattle.rounds.proofs.opening.refused.Reads as refused-reads
 
--- src/opening.rt:158:9
-refused-requires : tie.Need-refused-requires
-refused-requires c κs = search needs
-
--- src/opening.rt:158:9
 returns : tie.Need-returns
 returns c =
     let r = c in
@@ -27,11 +16,6 @@ returns c =
     let s = i .before .before .before .before .before .before .before .before .before in
     refused-many (s .args .equations) (s .args .lines) (s .args .places .now) (s .args .columns .now) (s .args .chosen .now) (s .args .free .now) (s .args .x .now) (s .args .a .now) (s .args .b .now) (s .args .c .now) (r .refused .result) (i .if1 .taken) (r .refused .ensures)
 
--- src/opening.rt:161:9
-refused-requires-2 : tie.Need-refused-requires-2
-refused-requires-2 c κs = search needs
-
--- src/opening.rt:161:9
 returns-2 : tie.Need-returns-2
 returns-2 c =
     let r = c in
@@ -40,7 +24,6 @@ returns-2 c =
     let s = i .before .before .before .before .before .before .before .before .before in
     refused-short (s .args .equations) (s .args .lines) (s .args .places .now) (s .args .columns .now) (s .args .chosen .now) (s .args .free .now) (s .args .x .now) (s .args .a .now) (s .args .b .now) (s .args .c .now) (i .if1 .left) (r .refused2 .result) (j .if2 .taken) (r .refused2 .ensures)
 
--- src/opening.rt:165:21
 array-borrow-prefix-here : tie.Need-array-borrow-prefix-here
 array-borrow-prefix-here c =
     let i = c .before .before in
@@ -48,7 +31,6 @@ array-borrow-prefix-here c =
     let few = none-many (length (s .args .chosen .now)) (length (s .args .free .now)) (length (s .args .x .now)) (i .if1 .left) in
     few .2
 
--- src/opening.rt:165:21
 slice-aggregate-copy : tie.Need-slice-aggregate-copy
 slice-aggregate-copy c =
     let i = c .before .before .before in
@@ -56,11 +38,6 @@ slice-aggregate-copy c =
     let few = none-many (length (s .args .chosen .now)) (length (s .args .free .now)) (length (s .args .x .now)) (i .if1 .left) in
     front (length (s .args .x .now)) (replicate 80 zero⁺) (few .2)
 
--- src/opening.rt:165:5
-copy-requires : tie.Need-copy-requires
-copy-requires c κs = search needs
-
--- src/opening.rt:173:9
 array-borrow-prefix-here-2 : tie.Need-array-borrow-prefix-here-2
 array-borrow-prefix-here-2 c =
     let k = c .before in
@@ -69,7 +46,6 @@ array-borrow-prefix-here-2 c =
     let few = none-many (length (s .args .chosen .now)) (length (s .args .free .now)) (length (s .args .x .now)) (i .if1 .left) in
     still-fits (length (s .args .x .now)) (replicate 80 zero⁺) (k .copy .last .1 .0) (few .2) (k .copy .kept .1 .0)
 
--- src/opening.rt:173:9
 slice-aggregate-in-areas : tie.Need-slice-aggregate-in-areas
 slice-aggregate-in-areas c =
     let k = c .before .before in
@@ -78,7 +54,6 @@ slice-aggregate-in-areas c =
     let few = none-many (length (s .args .chosen .now)) (length (s .args .free .now)) (length (s .args .x .now)) (i .if1 .left) in
     front (length (s .args .x .now)) ((k .copy .last .1 .0) ++ drop (length (s .args .x .now)) (replicate 80 zero⁺)) (still-fits (length (s .args .x .now)) (replicate 80 zero⁺) (k .copy .last .1 .0) (few .2) (k .copy .kept .1 .0))
 
--- src/opening.rt:166:9
 in-areas-requires : tie.Need-in-areas-requires
 in-areas-requires c κs =
     let k = c .before .before .before .before .before in
@@ -89,27 +64,6 @@ in-areas-requires c κs =
     let short = none-short (length (s .args .a .now)) (length (s .args .b .now)) (length (s .args .c .now)) (j .if2 .left) in
     (few .0, few .1, rw (← front (length (s .args .x .now)) ((k .copy .last .1 .0) ++ drop (length (s .args .x .now)) (replicate 80 zero⁺)) (still-fits (length (s .args .x .now)) (replicate 80 zero⁺) (k .copy .last .1 .0) (few .2) (k .copy .kept .1 .0))) (few .2), short .0, short .1, short .2)
 
--- src/opening.rt:179:9
-answer-requires : tie.Need-answer-requires
-answer-requires c κs = search needs
-
--- src/opening.rt:179:9
-same-length : tie.Need-same-length
-same-length c = search needs
-
--- src/opening.rt:179:9
-same-length-2 : tie.Need-same-length-2
-same-length-2 c = search needs
-
--- src/opening.rt:179:9
-same-length-3 : tie.Need-same-length-3
-same-length-3 c = search needs
-
--- src/opening.rt:179:9
-same-length-4 : tie.Need-same-length-4
-same-length-4 c = search needs
-
--- src/opening.rt:179:9
 returns-3 : tie.Need-returns-3
 returns-3 c =
     let r = c in
@@ -125,7 +79,6 @@ returns-3 c =
     (e .in-areas .ensures .3)
     (r .answer .ensures) (not-true (e .in-areas .result .converged) (f .if3 .taken))
 
--- src/opening.rt:181:18
 array-share-prefix-here : tie.Need-array-share-prefix-here
 array-share-prefix-here c =
     let e = c .before .before .before .before .before .before .before .before .before in
@@ -135,7 +88,6 @@ array-share-prefix-here c =
     let few = none-many (length (s .args .chosen .now)) (length (s .args .free .now)) (length (s .args .x .now)) (i .if1 .left) in
     still-fits (length (s .args .x .now)) ((k .copy .last .1 .0) ++ drop (length (s .args .x .now)) (replicate 80 zero⁺)) (e .in-areas .last .1 .1 .1 .1 .1 .1 .0) (still-fits (length (s .args .x .now)) (replicate 80 zero⁺) (k .copy .last .1 .0) (few .2) (k .copy .kept .1 .0)) (e .in-areas .kept .1 .1 .1 .1 .1 .1 .0)
 
--- src/opening.rt:181:18
 slice-aggregate-copy-2 : tie.Need-slice-aggregate-copy-2
 slice-aggregate-copy-2 c =
     let e = c .before .before .before .before .before .before .before .before .before .before in
@@ -145,31 +97,6 @@ slice-aggregate-copy-2 c =
     let few = none-many (length (s .args .chosen .now)) (length (s .args .free .now)) (length (s .args .x .now)) (i .if1 .left) in
     front (length (s .args .x .now)) ((e .in-areas .last .1 .1 .1 .1 .1 .1 .0) ++ drop (length (s .args .x .now)) ((k .copy .last .1 .0) ++ drop (length (s .args .x .now)) (replicate 80 zero⁺))) (still-fits (length (s .args .x .now)) ((k .copy .last .1 .0) ++ drop (length (s .args .x .now)) (replicate 80 zero⁺)) (e .in-areas .last .1 .1 .1 .1 .1 .1 .0) (still-fits (length (s .args .x .now)) (replicate 80 zero⁺) (k .copy .last .1 .0) (few .2) (k .copy .kept .1 .0)) (e .in-areas .kept .1 .1 .1 .1 .1 .1 .0))
 
--- src/opening.rt:181:5
-copy-requires-2 : tie.Need-copy-requires-2
-copy-requires-2 c κs = search needs
-
--- src/opening.rt:182:5
-answer-requires-2 : tie.Need-answer-requires-2
-answer-requires-2 c κs = search needs
-
--- src/opening.rt:142:1
-same-length-5 : tie.Need-same-length-5
-same-length-5 c = search needs
-
--- src/opening.rt:142:1
-same-length-6 : tie.Need-same-length-6
-same-length-6 c = search needs
-
--- src/opening.rt:142:1
-same-length-7 : tie.Need-same-length-7
-same-length-7 c = search needs
-
--- src/opening.rt:142:1
-same-length-8 : tie.Need-same-length-8
-same-length-8 c = search needs
-
--- src/opening.rt:142:1
 returns-4 : tie.Need-returns-4
 returns-4 c =
     let r = c in
@@ -192,28 +119,28 @@ pub solve-spec : {M : Type 1} → statement M
 solve-spec =
     tie.close
     (tie.spec
-    refused-requires
+    (λ c κs. search needs)
     returns
-    refused-requires-2
+    (λ c κs. search needs)
     returns-2
     array-borrow-prefix-here
     slice-aggregate-copy
-    copy-requires
+    (λ c κs. search needs)
     array-borrow-prefix-here-2
     slice-aggregate-in-areas
     in-areas-requires
-    answer-requires
-    same-length
-    same-length-2
-    same-length-3
-    same-length-4
+    (λ c κs. search needs)
+    (λ c. search needs)
+    (λ c. search needs)
+    (λ c. search needs)
+    (λ c. search needs)
     returns-3
     array-share-prefix-here
     slice-aggregate-copy-2
-    copy-requires-2
-    answer-requires-2
-    same-length-5
-    same-length-6
-    same-length-7
-    same-length-8
+    (λ c κs. search needs)
+    (λ c κs. search needs)
+    (λ c. search needs)
+    (λ c. search needs)
+    (λ c. search needs)
+    (λ c. search needs)
     returns-4)

@@ -2,11 +2,7 @@ use lib.Dec.{eqb}
 use Rattle.rounds.proofs.Around.{step-done, step-polish, step-outside, not-spent}
 use Rattle.rounds.proofs.round.after_round.Statement.{statement}
 use Rattle.rounds.proofs.round.after_round.Tie as tie
-use Rattle.rounds.proofs.round.after_round.Reads as reads
-use Rattle.rounds.proofs.round.after_round.Lts as lts
-use Rattle.rounds.proofs.Fit.polished.Reads as polished-reads
 
--- src/round.rt:65:13
 returns : tie.Need-returns
 returns c =
     let i = c in
@@ -14,14 +10,12 @@ returns c =
     let s = b .before .before in
     rw (b .if1 .taken) (step-done (s .args .t .fit) (s .args .t .improved) (eqb (s .args .t .fit .polish) 0) (i .if2 .taken))
 
--- src/round.rt:74:18
 polished-requires : tie.Need-polished-requires
 polished-requires c κs =
     let i = c in
     let s = i .before .before .before .before .before in
     not-spent (s .args .t .improved) (s .args .t .fit .polish) (i .if2 .left)
 
--- src/round.rt:71:9
 returns-2 : tie.Need-returns-2
 returns-2 c =
     let d = c in
@@ -31,7 +25,6 @@ returns-2 c =
     rw (b .if1 .taken)
     (step-polish (s .args .t .fit) (d .polished .result) (s .args .t .improved) (eqb (s .args .t .fit .polish) 0) (i .if2 .left) (d .polished .ensures))
 
--- src/round.rt:59:1
 returns-3 : tie.Need-returns-3
 returns-3 c =
     let b = c .before in

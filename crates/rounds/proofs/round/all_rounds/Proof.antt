@@ -1,4 +1,4 @@
-use Prim.Native.Nat.{_+_, _-_, _*_, _≤_}
+use Prim.Native.Nat.{_-_, _*_, _≤_}
 use mathlib.Core.Path.{_≡_, refl, _∙_}
 use native.Mathlib.Omega.{arith}
 use lib.Dec.{eqb}
@@ -10,11 +10,6 @@ use Rattle.rounds.proofs.Around.{round-counted, round-tried, round-owne
 use Rattle.rounds.proofs.Turn.{reshaped}
 use Rattle.rounds.proofs.round.all_rounds.Statement.{statement}
 use Rattle.rounds.proofs.round.all_rounds.Tie as tie
-use Rattle.rounds.proofs.round.all_rounds.Reads as reads
-use Rattle.rounds.proofs.round.all_rounds.Lts as lts
-use Rattle.rounds.proofs.round.after_round.Reads as after-round-reads
-use Rattle.rounds.proofs.round.one_round.Reads as one-round-reads
-use Rattle.rounds.proofs.round.within.Reads as within-reads
 
 abbrev Inv-loop : tie.InvT-loop
 Inv-loop equations lines chosen places columns free x₀ r₀ j₀ a₀ w₀ y₀ xn₀ rn₀ rows nf f₀ counter₀ x r j a w y xn rn f counter =
@@ -36,13 +31,11 @@ abbrev μ-loop : tie.MeasureT-loop
 μ-loop equations lines chosen places columns free x₀ r₀ j₀ a₀ w₀ y₀ xn₀ rn₀ rows nf f₀ counter₀ x r j a w y xn rn f counter =
     200 - counter
 
--- src/round.rt:110:5
 loop-holds : tie.Need-loop-holds Inv-loop μ-loop
 loop-holds c =
     let s = c .before .before .before .before .before .before .before .before .before .before .before .before in
     (search needs, s .pre .2, s .pre .3, s .pre .1 .own, refl, refl, refl, refl, refl, refl, refl, refl, refl)
 
--- src/round.rt:111:13
 one-round-requires : tie.Need-one-round-requires Inv-loop μ-loop
 one-round-requires c κs =
     let t = c .before .before .before .before .before .before .before .before in
@@ -57,71 +50,54 @@ one-round-requires c κs =
       omega (arith, l .loop .inv .2, t .loop-test .taken),
     )
 
--- src/round.rt:114:29
-within-requires : tie.Need-within-requires Inv-loop μ-loop
-within-requires c κs = search needs
-
--- src/round.rt:114:13
-after-round-requires : tie.Need-after-round-requires Inv-loop μ-loop
-after-round-requires c κs = search needs
-
--- src/round.rt:117:13
 same-length : tie.Need-same-length Inv-loop μ-loop
 same-length c =
     let o = c .before .before .before .before .before .before .before .before .before .before .before .before .before .before .before .before .before .before .before .before .before in
     let l = o .before .before .before .before .before .before .before .before .before .before in
     o .one-round .kept .1 .1 .1 .1 .1 .1 .0 ∙ l .loop .inv .5
 
--- src/round.rt:117:13
 same-length-2 : tie.Need-same-length-2 Inv-loop μ-loop
 same-length-2 c =
     let o = c .before .before .before .before .before .before .before .before .before .before .before .before .before .before .before .before .before .before .before .before .before in
     let l = o .before .before .before .before .before .before .before .before .before .before in
     o .one-round .kept .1 .1 .1 .1 .1 .1 .1 .0 ∙ l .loop .inv .6
 
--- src/round.rt:117:13
 same-length-3 : tie.Need-same-length-3 Inv-loop μ-loop
 same-length-3 c =
     let o = c .before .before .before .before .before .before .before .before .before .before .before .before .before .before .before .before .before .before .before .before .before in
     let l = o .before .before .before .before .before .before .before .before .before .before in
     o .one-round .kept .1 .1 .1 .1 .1 .1 .1 .1 .0 ∙ l .loop .inv .7
 
--- src/round.rt:117:13
 same-length-4 : tie.Need-same-length-4 Inv-loop μ-loop
 same-length-4 c =
     let o = c .before .before .before .before .before .before .before .before .before .before .before .before .before .before .before .before .before .before .before .before .before in
     let l = o .before .before .before .before .before .before .before .before .before .before in
     o .one-round .kept .1 .1 .1 .1 .1 .1 .1 .1 .1 .0 ∙ l .loop .inv .8
 
--- src/round.rt:117:13
 same-length-5 : tie.Need-same-length-5 Inv-loop μ-loop
 same-length-5 c =
     let o = c .before .before .before .before .before .before .before .before .before .before .before .before .before .before .before .before .before .before .before .before .before in
     let l = o .before .before .before .before .before .before .before .before .before .before in
     o .one-round .kept .1 .1 .1 .1 .1 .1 .1 .1 .1 .1 .0 ∙ l .loop .inv .9
 
--- src/round.rt:117:13
 same-length-6 : tie.Need-same-length-6 Inv-loop μ-loop
 same-length-6 c =
     let o = c .before .before .before .before .before .before .before .before .before .before .before .before .before .before .before .before .before .before .before .before .before in
     let l = o .before .before .before .before .before .before .before .before .before .before in
     o .one-round .kept .1 .1 .1 .1 .1 .1 .1 .1 .1 .1 .1 .0 ∙ l .loop .inv .10
 
--- src/round.rt:117:13
 same-length-7 : tie.Need-same-length-7 Inv-loop μ-loop
 same-length-7 c =
     let o = c .before .before .before .before .before .before .before .before .before .before .before .before .before .before .before .before .before .before .before .before .before in
     let l = o .before .before .before .before .before .before .before .before .before .before in
     o .one-round .kept .1 .1 .1 .1 .1 .1 .1 .1 .1 .1 .1 .1 .0 ∙ l .loop .inv .11
 
--- src/round.rt:117:13
 same-length-8 : tie.Need-same-length-8 Inv-loop μ-loop
 same-length-8 c =
     let o = c .before .before .before .before .before .before .before .before .before .before .before .before .before .before .before .before .before .before .before .before .before in
     let l = o .before .before .before .before .before .before .before .before .before .before in
     o .one-round .kept .1 .1 .1 .1 .1 .1 .1 .1 .1 .1 .1 .1 .1 .0 ∙ l .loop .inv .12
 
--- src/round.rt:117:13
 returns : tie.Need-returns Inv-loop μ-loop
 returns c =
     let i = c in
@@ -136,19 +112,16 @@ returns c =
     rounds-stop P J (l .loop .counter) (stateOf (l .loop .x) (l .loop .r) (l .loop .f)) (o .one-round .last .1 .1 .1 .1 .1 .1 .0) (o .one-round .last .1 .1 .1 .1 .1 .1 .1 .0) (o .one-round .result)
     (b .within .result) (g .after-round .result) _ (t .loop-test .taken) (o .one-round .ensures) (b .within .ensures) (g .after-round .ensures) (l .loop .inv .4) (i .if1 .taken)
 
--- src/round.rt:110:9
 add-counter : tie.Need-add-counter Inv-loop μ-loop
 add-counter c =
     let t = c .before .before .before .before .before .before .before .before .before .before .before .before .before .before .before .before .before .before .before .before .before .before .before .before .before .before .before .before .before .before in
     record { fits = omega (arith, t .loop-test .taken) }
 
--- src/round.rt:110:5
 loop-less : tie.Need-loop-less Inv-loop μ-loop
 loop-less c =
     let t = c .before .before .before .before .before .before .before .before .before .before .before .before .before .before .before .before .before .before .before .before .before .before .before .before .before .before .before .before .before .before in
     omega (arith, t .loop-test .taken)
 
--- src/round.rt:110:5
 loop-again : tie.Need-loop-again Inv-loop μ-loop
 loop-again c =
     let i = c in
@@ -180,43 +153,6 @@ loop-again c =
       o .one-round .kept .1 .1 .1 .1 .1 .1 .1 .1 .1 .1 .1 .1 .1 .0 ∙ l .loop .inv .12,
     )
 
--- src/round.rt:124:20
-within-requires-2 : tie.Need-within-requires-2 Inv-loop μ-loop
-within-requires-2 c κs = search needs
-
--- src/round.rt:85:1
-same-length-9 : tie.Need-same-length-9 Inv-loop μ-loop
-same-length-9 c = search needs
-
--- src/round.rt:85:1
-same-length-10 : tie.Need-same-length-10 Inv-loop μ-loop
-same-length-10 c = search needs
-
--- src/round.rt:85:1
-same-length-11 : tie.Need-same-length-11 Inv-loop μ-loop
-same-length-11 c = search needs
-
--- src/round.rt:85:1
-same-length-12 : tie.Need-same-length-12 Inv-loop μ-loop
-same-length-12 c = search needs
-
--- src/round.rt:85:1
-same-length-13 : tie.Need-same-length-13 Inv-loop μ-loop
-same-length-13 c = search needs
-
--- src/round.rt:85:1
-same-length-14 : tie.Need-same-length-14 Inv-loop μ-loop
-same-length-14 c = search needs
-
--- src/round.rt:85:1
-same-length-15 : tie.Need-same-length-15 Inv-loop μ-loop
-same-length-15 c = search needs
-
--- src/round.rt:85:1
-same-length-16 : tie.Need-same-length-16 Inv-loop μ-loop
-same-length-16 c = search needs
-
--- src/round.rt:85:1
 returns-2 : tie.Need-returns-2 Inv-loop μ-loop
 returns-2 c =
     let b = c in
@@ -235,8 +171,8 @@ all-rounds-spec =
     μ-loop
     loop-holds
     one-round-requires
-    within-requires
-    after-round-requires
+    (λ c κs. search needs)
+    (λ c κs. search needs)
     same-length
     same-length-2
     same-length-3
@@ -249,13 +185,13 @@ all-rounds-spec =
     add-counter
     loop-less
     loop-again
-    within-requires-2
-    same-length-9
-    same-length-10
-    same-length-11
-    same-length-12
-    same-length-13
-    same-length-14
-    same-length-15
-    same-length-16
+    (λ c κs. search needs)
+    (λ c. search needs)
+    (λ c. search needs)
+    (λ c. search needs)
+    (λ c. search needs)
+    (λ c. search needs)
+    (λ c. search needs)
+    (λ c. search needs)
+    (λ c. search needs)
     returns-2)

@@ -4,31 +4,7 @@ use Rattle.rounds.specs.Problem.{jacobianAt, problemOf}
 use Rattle.rounds.proofs.Around.{jacobian-found, product-found, diagonal-found, round-is}
 use Rattle.rounds.proofs.round.one_round.Statement.{statement}
 use Rattle.rounds.proofs.round.one_round.Tie as tie
-use Rattle.rounds.proofs.round.one_round.Reads as reads
-use Rattle.rounds.proofs.round.one_round.Lts as lts
-use Rattle.normal.proofs.diag_max.Reads as diag-max-reads
-use Rattle.normal.proofs.product.Reads as product-reads
-use Rattle.rounds.proofs.Fit.begun.Reads as begun-reads
-use Rattle.rounds.proofs.tries.all_tries.Reads as all-tries-reads
-use Rattle.slopes.proofs.jacobian.Reads as jacobian-reads
 
--- src/round.rt:48:5
-jacobian-requires : tie.Need-jacobian-requires
-jacobian-requires c κs = search needs
-
--- src/round.rt:49:5
-product-requires : tie.Need-product-requires
-product-requires c κs = search needs
-
--- src/round.rt:50:9
-diag-max-requires : tie.Need-diag-max-requires
-diag-max-requires c κs = search needs
-
--- src/round.rt:51:9
-begun-requires : tie.Need-begun-requires
-begun-requires c κs = search needs
-
--- src/round.rt:52:5
 all-tries-requires : tie.Need-all-tries-requires
 all-tries-requires c κs =
     let b = c .before .before .before .before .before .before .before .before in
@@ -51,41 +27,11 @@ all-tries-requires c κs =
       rw (b .begun .ensures) (s .pre .3),
     )
 
--- src/round.rt:24:1
-same-length : tie.Need-same-length
-same-length c = search needs
-
--- src/round.rt:24:1
-same-length-2 : tie.Need-same-length-2
-same-length-2 c = search needs
-
--- src/round.rt:24:1
 same-length-3 : tie.Need-same-length-3
 same-length-3 c =
     let d = c .before .before .before .before .before .before .before .before .before .before .before .before .before .before .before .before .before .before .before .before .before .before .before .before .before .before .before .before .before .before .before in
     d .jacobian .kept .1 .1 .1 .1 .1 .1 .1 .0
 
--- src/round.rt:24:1
-same-length-4 : tie.Need-same-length-4
-same-length-4 c = search needs
-
--- src/round.rt:24:1
-same-length-5 : tie.Need-same-length-5
-same-length-5 c = search needs
-
--- src/round.rt:24:1
-same-length-6 : tie.Need-same-length-6
-same-length-6 c = search needs
-
--- src/round.rt:24:1
-same-length-7 : tie.Need-same-length-7
-same-length-7 c = search needs
-
--- src/round.rt:24:1
-same-length-8 : tie.Need-same-length-8
-same-length-8 c = search needs
-
--- src/round.rt:24:1
 returns : tie.Need-returns
 returns c =
     let k = c .before .before .before .before .before .before .before .before .before .before .before .before in
@@ -110,17 +56,17 @@ pub one-round-spec : {M : Type 1} → statement M
 one-round-spec =
     tie.close
     (tie.spec
-    jacobian-requires
-    product-requires
-    diag-max-requires
-    begun-requires
+    (λ c κs. search needs)
+    (λ c κs. search needs)
+    (λ c κs. search needs)
+    (λ c κs. search needs)
     all-tries-requires
-    same-length
-    same-length-2
+    (λ c. search needs)
+    (λ c. search needs)
     same-length-3
-    same-length-4
-    same-length-5
-    same-length-6
-    same-length-7
-    same-length-8
+    (λ c. search needs)
+    (λ c. search needs)
+    (λ c. search needs)
+    (λ c. search needs)
+    (λ c. search needs)
     returns)

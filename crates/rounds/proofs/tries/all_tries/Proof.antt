@@ -8,9 +8,6 @@ use Rattle.rounds.specs.Solve.{triesOf}
 use Rattle.rounds.proofs.Turn.{shaped, one-more, tries-next, tries-stop, tries-done}
 use Rattle.rounds.proofs.tries.all_tries.Statement.{statement}
 use Rattle.rounds.proofs.tries.all_tries.Tie as tie
-use Rattle.rounds.proofs.tries.all_tries.Reads as reads
-use Rattle.rounds.proofs.tries.all_tries.Lts as lts
-use Rattle.rounds.proofs.tries.one_try.Reads as one-try-reads
 
 abbrev Inv-loop : tie.InvT-loop
 Inv-loop equations lines chosen places free j a x₀ r₀ w₀ y₀ xn₀ rn₀ rows nf m f₀ counter₀ x r w y xn rn f counter =
@@ -29,11 +26,9 @@ abbrev μ-loop : tie.MeasureT-loop
 μ-loop equations lines chosen places free j a x₀ r₀ w₀ y₀ xn₀ rn₀ rows nf m f₀ counter₀ x r w y xn rn f counter =
     12 - counter
 
--- src/tries.rt:94:5
 loop-holds : tie.Need-loop-holds Inv-loop μ-loop
 loop-holds c = (search needs, search needs, refl, refl, refl, refl, refl, refl, refl)
 
--- src/tries.rt:95:13
 one-try-requires : tie.Need-one-try-requires Inv-loop μ-loop
 one-try-requires c κs =
     let t = c .before .before .before .before .before .before in
@@ -45,31 +40,6 @@ one-try-requires c κs =
       omega (arith, l .loop .inv .1, s .pre .1, t .loop-test .taken),
     )
 
--- src/tries.rt:99:13
-same-length : tie.Need-same-length Inv-loop μ-loop
-same-length c = search needs
-
--- src/tries.rt:99:13
-same-length-2 : tie.Need-same-length-2 Inv-loop μ-loop
-same-length-2 c = search needs
-
--- src/tries.rt:99:13
-same-length-3 : tie.Need-same-length-3 Inv-loop μ-loop
-same-length-3 c = search needs
-
--- src/tries.rt:99:13
-same-length-4 : tie.Need-same-length-4 Inv-loop μ-loop
-same-length-4 c = search needs
-
--- src/tries.rt:99:13
-same-length-5 : tie.Need-same-length-5 Inv-loop μ-loop
-same-length-5 c = search needs
-
--- src/tries.rt:99:13
-same-length-6 : tie.Need-same-length-6 Inv-loop μ-loop
-same-length-6 c = search needs
-
--- src/tries.rt:99:13
 returns : tie.Need-returns Inv-loop μ-loop
 returns c =
     let i = c in
@@ -81,15 +51,6 @@ returns c =
     tries-stop P (s .args .j .now) (s .args .a .now) (s .args .m) (l .loop .counter) (stateOf (l .loop .x) (l .loop .r) (l .loop .f))
     (o .one-try .last .1 .1 .1 .1 .1 .1 .1 .0) (o .one-try .last .1 .1 .1 .1 .1 .1 .1 .1 .0) (o .one-try .result) _ (t .loop-test .taken) (o .one-try .ensures) (l .loop .inv .2) (i .if1 .taken)
 
--- src/tries.rt:94:9
-add-counter : tie.Need-add-counter Inv-loop μ-loop
-add-counter c = search needs
-
--- src/tries.rt:94:5
-loop-less : tie.Need-loop-less Inv-loop μ-loop
-loop-less c = search needs
-
--- src/tries.rt:94:5
 loop-again : tie.Need-loop-again Inv-loop μ-loop
 loop-again c =
     let i = c .before in
@@ -112,31 +73,6 @@ loop-again c =
       o .one-try .kept .1 .1 .1 .1 .1 .1 .1 .1 .1 .1 .1 .1 .0 ∙ l .loop .inv .8,
     )
 
--- src/tries.rt:70:1
-same-length-7 : tie.Need-same-length-7 Inv-loop μ-loop
-same-length-7 c = search needs
-
--- src/tries.rt:70:1
-same-length-8 : tie.Need-same-length-8 Inv-loop μ-loop
-same-length-8 c = search needs
-
--- src/tries.rt:70:1
-same-length-9 : tie.Need-same-length-9 Inv-loop μ-loop
-same-length-9 c = search needs
-
--- src/tries.rt:70:1
-same-length-10 : tie.Need-same-length-10 Inv-loop μ-loop
-same-length-10 c = search needs
-
--- src/tries.rt:70:1
-same-length-11 : tie.Need-same-length-11 Inv-loop μ-loop
-same-length-11 c = search needs
-
--- src/tries.rt:70:1
-same-length-12 : tie.Need-same-length-12 Inv-loop μ-loop
-same-length-12 c = search needs
-
--- src/tries.rt:70:1
 returns-2 : tie.Need-returns-2 Inv-loop μ-loop
 returns-2 c =
     let t = c in
@@ -153,20 +89,20 @@ all-tries-spec =
     μ-loop
     loop-holds
     one-try-requires
-    same-length
-    same-length-2
-    same-length-3
-    same-length-4
-    same-length-5
-    same-length-6
+    (λ c. search needs)
+    (λ c. search needs)
+    (λ c. search needs)
+    (λ c. search needs)
+    (λ c. search needs)
+    (λ c. search needs)
     returns
-    add-counter
-    loop-less
+    (λ c. search needs)
+    (λ c. search needs)
     loop-again
-    same-length-7
-    same-length-8
-    same-length-9
-    same-length-10
-    same-length-11
-    same-length-12
+    (λ c. search needs)
+    (λ c. search needs)
+    (λ c. search needs)
+    (λ c. search needs)
+    (λ c. search needs)
+    (λ c. search needs)
     returns-2)
