@@ -4,11 +4,13 @@ import subprocess
 import sys
 from pathlib import Path
 
-ROOT = Path(__file__).resolve().parents[2]
+HERE = Path(__file__).resolve().parent
+ROOT = HERE.parents[1]
 STANDINS = ROOT / "tests/oracle/standins"
 CRATES = ["rayon", "serde", "schemars", "libm", "datum_math"]
 SOURCES = ["solver.rs", "equations.rs", "lib.rs"]
 NO_RUST = 77
+TARGET = "x86_64-unknown-linux-gnu"
 
 MANIFEST = """[package]
 name = "{name}"
@@ -63,6 +65,6 @@ def run(here, name, library, count):
         sys.exit(made.stdout + made.stderr)
     out = ROOT / "target/tests" / here.name
     compose(rust, out, here, name, library)
-    if subprocess.run(["cargo", "build", "--offline", "--quiet", "--release"], cwd=out, check=False).returncode != 0:
+    if subprocess.run([HERE / "x86_64", "cargo", "build", "--offline", "--quiet", "--release", "--target", TARGET], cwd=out, check=False).returncode != 0:
         sys.exit(f"{here.name}/run: cargo failed")
-    sys.exit(subprocess.run([out / "target/release" / name, words[0], words[1]], check=False).returncode)
+    sys.exit(subprocess.run([out / "target" / TARGET / "release" / name, words[0], words[1]], check=False).returncode)

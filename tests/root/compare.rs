@@ -153,10 +153,12 @@ fn main() {
     report("ends of every exponent", t);
     println!("NaN answers with other bits than {:016x}: {}", NAN, total.other_nan);
 
-    let positive: Vec<f64> = (0..1 << 14).map(|_| f64::from_bits(1 + r.below(0x7ff * FIELD - 1))).collect();
-    times("every exponent", &positive);
-    let common: Vec<f64> = (0..1 << 14).map(|_| r.below(1 << 40) as f64 / 1024.0).collect();
-    times("0 to 2 ^ 30", &common);
+    if std::env::var_os("UNTIMED").is_none() {
+        let positive: Vec<f64> = (0..1 << 14).map(|_| f64::from_bits(1 + r.below(0x7ff * FIELD - 1))).collect();
+        times("every exponent", &positive);
+        let common: Vec<f64> = (0..1 << 14).map(|_| r.below(1 << 40) as f64 / 1024.0).collect();
+        times("0 to 2 ^ 30", &common);
+    }
     println!("{} same, {} differ", total.same, total.differ);
     if total.differ > 0 {
         std::process::exit(1);
