@@ -1,12 +1,10 @@
--- No reply is longer than 8,192 bytes, whatever the answer: `short`. So a slice with that room has room for every reply.
--- Assumes nothing.
+-- No reply is longer than 8,192 bytes: line by line. Assumes nothing.
 use mathlib.Core.Bool.{Bool, true, false, cond}
 use mathlib.Core.List.{List, []}
-use mathlib.Core.Path.{_≡_, refl}
-use Prim.Native.Nat.{ℕ, zero, suc, _+_, _*_, _/_, _≤_, min}
+use mathlib.Core.Path.{_≡_}
+use Prim.Native.Nat.{ℕ, zero, suc, _+_, _*_, _≤_, min}
 use native.Mathlib.Nat.{mul-le-mul-right, min-le-right}
 use native.Mathlib.Omega.{arith}
-use lib.Dec.{ltb}
 use lib.Ieee.{Float}
 use lib.ListN.{length, length-append, getD}
 use Rattle.answer.specs.Endings.{blankGroup}
@@ -15,32 +13,23 @@ use Rattle.answer.specs.declared.GroupFit.{GroupFit}
 use Rattle.sketch.specs.Check.{numberOf}
 use Rattle.sketch.specs.declared.Ending.{Ending}
 use Rattle.sketch.specs.declared.Ending.the-variants.{Fitted, TooLong, BadForm, TooMany, OutOfBounds, NoSuchItem, TooManyRows, NotConverged, TooShort}
-use Rattle.reply.specs.Figures.{comma, newline, wholeIn, wholeText, hexIn, floatText, whole, float}
+use Rattle.spelling.proofs.Digits.{decimal-short, hexadecimal-long}
+use Rattle.reply.specs.Figures.{comma, newline, whole, float}
 use Rattle.reply.specs.Lines.{statusLine, totalLines, groupLine, failedLine, suspectLine, pointLine, measureLine}
 use Rattle.reply.specs.Reply.{rising, groupLines, outputLines, fittedLines, failedLines, linesAfter, replyOf}
+use Rattle.reply.specs.Theorems.{NoneLonger}
 
 either : (b : Bool) (x y : List ℕ) (k : ℕ) → length x ≤ k → length y ≤ k → length (cond b x y) ≤ k
 either true x y k h q = h
 either false x y k h q = q
 
-digits-short : (k n : ℕ) → length (wholeIn k n) ≤ k
-unfolding wholeIn
-digits-short zero n = omega arith
-digits-short (suc k) n =
-    simp length-append (omega (arith, either (ltb n 10) [] (wholeIn k (n / 10)) k (omega arith) (digits-short k (n / 10))))
-
-hex-long : (k b : ℕ) → length (hexIn k b) ≡ k
-unfolding hexIn
-hex-long zero b = refl
-hex-long (suc k) b = simp length-append (omega (arith, hex-long k (b / 16)))
-
 whole-short : (n b : ℕ) → length (whole n b) ≤ 21
-unfolding whole wholeText
-whole-short n b = simp length-append (omega (arith, digits-short 20 n))
+unfolding whole
+whole-short n b = simp length-append (omega (arith, decimal-short 19 n))
 
 float-long : (x : Float) (b : ℕ) → length (float x b) ≡ 17
-unfolding float floatText
-float-long x b = simp (length-append, hex-long)
+unfolding float
+float-long x b = simp (length-append, hexadecimal-long)
 
 status-short : (e : Ending) → length (statusLine e) ≤ 28
 unfolding statusLine
@@ -102,7 +91,7 @@ after-short NoSuchItem a out p m h k = omega arith
 after-short TooManyRows a out p m h k = omega arith
 after-short TooShort a out p m h k = omega arith
 
-pub short : (a : Answer) (out : List Float) (points measures : ℕ) → length (replyOf a out points measures) ≤ 8192
+pub short : NoneLonger
 unfolding replyOf
 short a out points measures =
     simp length-append
