@@ -93,6 +93,15 @@ pub fn copy(from: &[f64], to: &mut [f64])
     }
 }
 
+// Every place as it is handed out.
+pub fn hand_out(s: &mut [f64])
+    ensures { λ _. ⌜ now (s .exit) ≡ now (s .entry) ⌝ }
+{
+    for i in 0..s.len() {
+        s[i] = handed_out(s[i]);
+    }
+}
+
 // What stands at i and at j change places.
 pub fn swap(s: &mut [f64], i: usize, j: usize)
     ensures { λ _. ⌜ now (s .exit) ≡ swapAt i j (now (s .entry)) ⌝ }

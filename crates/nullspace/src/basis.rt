@@ -25,7 +25,7 @@ fn row_start(r: usize, n: usize, len: usize) -> usize
     if s <= len - n { s } else { 0 }
 }
 
-fn vector(e: &mut [f64], n: usize, v: &[f64], rank: usize, j: usize)
+fn reflected(e: &mut [f64], n: usize, v: &[f64], rank: usize, j: usize)
     requires { ⌜ ((length (now e) ≡ n) × (j < n)) × (rank * n ≤ length (now v)) ⌝ }
     ensures { λ _. ⌜ now (e .exit) ≡ basisVector n rank (now (v .entry)) j ⌝ }
 {
@@ -37,6 +37,15 @@ fn vector(e: &mut [f64], n: usize, v: &[f64], rank: usize, j: usize)
         let end = start + n;
         reflect::reflect(&v[start..end], n, e);
     }
+}
+
+// A vector of the basis, as it is handed out.
+fn vector(e: &mut [f64], n: usize, v: &[f64], rank: usize, j: usize)
+    requires { ⌜ ((length (now e) ≡ n) × (j < n)) × (rank * n ≤ length (now v)) ⌝ }
+    ensures { λ _. ⌜ now (e .exit) ≡ basisVector n rank (now (v .entry)) j ⌝ }
+{
+    reflected(e, n, v, rank, j);
+    floats::hand_out(e);
 }
 
 // The vectors one after another at the head of `out`.

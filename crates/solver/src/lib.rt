@@ -40,7 +40,7 @@ pub fn norm2(v: &[f64]) -> f64
     for i in 0..v.len() {
         s = s + v[i] * v[i];
     }
-    s
+    floats::handed_out(s)
 }
 
 // What elimination came to. A refusal changes nothing that is lent.

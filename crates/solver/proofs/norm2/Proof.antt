@@ -1,7 +1,7 @@
 use lib.Ieee.{nan, neg, ofBits}
 use borrow.Author.Needs.{needs}
 use Prim.Native.Nat.{_≤_, _-_}
-use mathlib.Core.Path.{_≡_, refl}
+use mathlib.Core.Path.{_≡_, refl, _∙_}
 use lib.ListN.{length, drop}
 use Rattle.loops.specs.Turns.{fold, fold-next, fold-done}
 use Rattle.solver.specs.Sums.{addSquare, norm2Of}
@@ -23,7 +23,7 @@ unfolding addSquare
 loop-again c = (search needs, search needs, search (fold-next nan addSquare, needs))
 
 returns : tie.Need-returns Inv-loop μ-loop
-returns c = search (fold-done, needs)
+returns c = c .handed-out .ensures ∙ search (fold-done, needs)
 
 pub norm2-spec : {M : Type 1} → statement M
 norm2-spec =
@@ -39,4 +39,5 @@ norm2-spec =
     (λ c. search needs)
     (λ c. search needs)
     loop-again
+    (λ c κs. search needs)
     returns)
