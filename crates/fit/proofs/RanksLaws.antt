@@ -1,9 +1,9 @@
 -- From what the calls of `freedom` promise to its definition. Assumes nothing.
-use Prim.Native.Nat.{ℕ, zero, suc, _+_, _-_, _*_, _≤_, _<_}
+use Prim.Native.Nat.{ℕ, zero, suc, _+_, _-_, _*_, _≤_, _<_, min}
 use mathlib.Core.Bool.{Bool, true, false, cond}
 use mathlib.Core.List.{List, [], _∷_, _++_}
 use mathlib.Core.Path.{_≡_, refl, sym, ap, _∙_}
-use native.Mathlib.Nat.{le-refl, mul-le-mul-right}
+use native.Mathlib.Nat.{le-refl, min-le-right, mul-le-mul-right}
 use native.Mathlib.Omega.{arith}
 use borrow.Author.Tests.{le-ltb}
 use lib.Dec.{ltb}
@@ -29,12 +29,8 @@ use Rattle.fit.specs.declared.Frame.{Frame}
 
 -- ---- how many items of an array are listed
 
-module _ (l : List ℕ) (count m : ℕ) (e : length l ≡ m) where
-  pub some-listed : count < m → (count ≡ length (take count l)) × (count ≤ m)
-  some-listed h = (omega (arith, length-take count l), omega arith)
-
-  pub all-listed : m ≤ count → (m ≡ length (take count l)) × (m ≤ m)
-  all-listed h = (omega (arith, length-take count l), omega arith)
+pub listed : (l : List ℕ) (count m n : ℕ) → length l ≡ m → n ≡ min count m → (n ≡ length (take count l)) × (n ≤ m)
+listed l count m n e h = (h ∙ rw (← e) (sym (length-take count l)), omega (arith, min-le-right count m))
 
 -- and those are the front of it
 take-again : (count : ℕ) (l : List ℕ) → take (length (take count l)) l ≡ take count l

@@ -7,6 +7,7 @@ ghost use Rattle.members.specs.Movable.{indicesOf};
 ghost use Rattle.fit.specs.Fits.{Frees, Lays, Ranks, freedBy};
 use crate::Degrees;
 use crate::Frame;
+use loops::smaller;
 use members::Coordinates;
 use members::Listed;
 use nullspace::NullSpace;
@@ -16,13 +17,13 @@ use sketch::Build;
 pub(crate) fn numbers(l: Listed) -> usize
     ensures { λ n. ⌜ (n ≡ length (numbersOf l)) × (n ≤ 40) ⌝ }
 {
-    if l.count < 40 { l.count } else { 40 }
+    smaller(l.count, 40)
 }
 
 fn held(f: Coordinates) -> usize
     ensures { λ n. ⌜ (n ≡ length (indicesOf f)) × (n ≤ 80) ⌝ }
 {
-    if f.count < 80 { f.count } else { 80 }
+    smaller(f.count, 80)
 }
 
 // The gradients of the frame's own equations at x, at the head of p, and how many rows they are.

@@ -36,6 +36,16 @@ pub data Outcome : Type 0 where
   converged : List Float → ℕ → ℕ → Outcome
   failed : ℕ → ℕ → Outcome
 
+-- `MAX_ITER`, the tries of an iteration, `POLISH`
+abbrev pub maxIter : ℕ
+maxIter = 200
+
+abbrev pub maxTries : ℕ
+maxTries = 12
+
+abbrev pub polishSteps : ℕ
+polishSteps = 3
+
 -- max_abs(&r) <= tol
 abbrev pub within : List Float → Bool
 within r = le (maxAbsOf r) 1e-12
@@ -101,7 +111,7 @@ module _ (P : Problem) where
   unfoldable pub tryOf : List Float → List Float → Float → State → Tried
   tryOf j a m s = judged s (trialOf j a m (s .mu) (s .x) (s .r))
 
-  -- for _ in 0..12
+  -- for _ in 0..12, `maxTries`
   unfoldable pub triesOf : List Float → List Float → Float → ℕ → State → Tried
   triesOf j a m zero s = record { improved = false; state = s }
   triesOf j a m (suc k) s = let t = tryOf j a m s in orNext (t .improved) (t .state) (triesOf j a m k)
@@ -149,7 +159,7 @@ module _ (P : Problem) where
     r = P .values x;
     cost = norm2Of (P .values x);
     mu = 1e-10;
-    polish = 3;
+    polish = polishSteps;
     iterations = 0;
     tries = 0;
   }
@@ -159,7 +169,7 @@ module _ (P : Problem) where
     roundOf s =
         let j = jacobian (s .x) in
         let a = productOf (P .rows) (length (P .free)) j in
-        triesOf j a (diagMaxOf (P .rows) a) 12 (begun s)
+        triesOf j a (diagMaxOf (P .rows) a) maxTries (begun s)
 
     -- for _ in 0..MAX_ITER
     unfoldable pub roundsOf : ℕ → State → Outcome
@@ -172,7 +182,7 @@ module _ (P : Problem) where
     abbrev pub opened : Bool → Bool → List Float → Outcome
     opened true fixed x = converged x 0 0
     opened false true x = failed 0 0
-    opened false false x = roundsOf 200 (startOf x)
+    opened false false x = roundsOf maxIter (startOf x)
 
     unfoldable pub solveOf : List Float → Outcome
     solveOf x = opened (within (P .values x)) (eqb (length (P .free)) 0) x

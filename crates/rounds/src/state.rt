@@ -17,6 +17,10 @@ impl Fit {
     pub const DAMPING: f64 = 1e-10;
 
     pub const LEAST_DAMPING: f64 = 1e-15;
+    // What the damping is multiplied by after a try that was taken, and after one that was not.
+    pub const EASIER: f64 = 0.1;
+
+    pub const HARDER: f64 = 10.0;
 
     pub fn start(cost: f64) -> Fit
         ensures { λ f. ⌜ f ≡ startedFit cost ⌝ }
@@ -51,7 +55,7 @@ impl Fit {
     {
         Fit {
             cost,
-            mu: floats::max(self.mu * 0.1, Fit::LEAST_DAMPING),
+            mu: floats::max(self.mu * Fit::EASIER, Fit::LEAST_DAMPING),
             polish: self.polish,
             iterations: self.iterations,
             tries: self.tries + 1,
@@ -65,7 +69,7 @@ impl Fit {
     {
         Fit {
             cost: self.cost,
-            mu: self.mu * 10.0,
+            mu: self.mu * Fit::HARDER,
             polish: self.polish,
             iterations: self.iterations,
             tries: self.tries + 1,

@@ -75,10 +75,3 @@ pub fn dir(places: &[u8], x: &[f64], l: Line) -> Dir
 {
     toward(places, x, l.from, l.to)
 }
-
-// The length alone.
-pub(crate) fn span(places: &[u8], x: &[f64], l: Line) -> f64
-    ensures { λ r. ⌜ r ≡ dirOf (atOf (now (places .entry)) (now (x .entry))) l .len ⌝ }
-{
-    apart(places, x, l.from, l.to)
-}

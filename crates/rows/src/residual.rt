@@ -12,7 +12,6 @@ use crate::located::at;
 use crate::located::dir;
 use crate::located::middle;
 use crate::located::offset;
-use crate::located::span;
 use crate::located::toward;
 use crate::vectors::along_axis;
 use crate::vectors::first_sign;
@@ -105,7 +104,9 @@ fn collinear(places: &[u8], x: &[f64], i: Line, j: Line) -> Values
 fn equal(places: &[u8], x: &[f64], i: Line, j: Line) -> Values
     ensures { λ r. ⌜ r ≡ valuesOf (equalOf (atOf (now (places .entry)) (now (x .entry))) i j) ⌝ }
 {
-    one(span(places, x, i) - span(places, x, j))
+    let di = dir(places, x, i);
+    let dj = dir(places, x, j);
+    one(di.len - dj.len)
 }
 
 fn distance(places: &[u8], x: &[f64], a: PointNo, b: PointNo, value: f64) -> Values
@@ -131,7 +132,8 @@ fn axis_distance(
 fn length(places: &[u8], x: &[f64], l: Line, value: f64) -> Values
     ensures { λ r. ⌜ r ≡ valuesOf (lengthOf (atOf (now (places .entry)) (now (x .entry))) l value) ⌝ }
 {
-    one(span(places, x, l) - value)
+    let d = dir(places, x, l);
+    one(d.len - value)
 }
 
 fn point_line(places: &[u8], x: &[f64], p: PointNo, l: Line, value: f64, side: f64) -> Values

@@ -1,18 +1,14 @@
 -- Assumes nothing.
 use Rattle.members.proofs.Sized.{sized}
-use Rattle.fit.proofs.RanksLaws.{some-listed, all-listed}
+use Rattle.fit.proofs.RanksLaws.{listed}
+use borrow.Author.Needs.{needs}
 use Rattle.fit.proofs.ranks.held.Statement.{statement}
 use Rattle.fit.proofs.ranks.held.Tie as tie
 
 returns : tie.Need-returns
 returns c =
-    let s = c .before .before in
-    some-listed (s .args .f .items) (s .args .f .count) 80 (sized 80 (s .args .f .items) (s .good .0 .1 .1 .0 .1 .0 .1)) (c .if1 .taken)
-
-returns-2 : tie.Need-returns-2
-returns-2 c =
-    let s = c .before .before in
-    all-listed (s .args .f .items) (s .args .f .count) 80 (sized 80 (s .args .f .items) (s .good .0 .1 .1 .0 .1 .0 .1)) (c .if1 .left)
+    let s = c .before in
+    listed (s .args .f .items) (s .args .f .count) 80 _ (sized 80 (s .args .f .items) (s .good .0 .1 .1 .0 .1 .0 .1)) (c .smaller .ensures)
 
 pub held-spec : {M : Type 1} → statement M
-held-spec = tie.close (tie.spec returns returns-2)
+held-spec = tie.close (tie.spec (λ c κs. search needs) returns)
