@@ -19,22 +19,22 @@ pub struct Fit {
 }
 
 // What a try came to, or a round's tries: whether one was taken, and where the fit stands.
-pub struct Attempted {
-    pub improved: bool,
-    pub fit: Fit,
+pub(crate) struct Attempted {
+    pub(crate) improved: bool,
+    pub(crate) fit: Fit,
 }
 
 // What a round leads to.
-pub struct Step {
-    pub ended: bool,
-    pub converged: bool,
-    pub fit: Fit,
+pub(crate) struct Step {
+    pub(crate) ended: bool,
+    pub(crate) converged: bool,
+    pub(crate) fit: Fit,
 }
 
 // How a fit ended, and where it stood.
-pub struct Ended {
-    pub converged: bool,
-    pub fit: Fit,
+pub(crate) struct Ended {
+    pub(crate) converged: bool,
+    pub(crate) fit: Fit,
 }
 
 // What a call came to. A refusal changes nothing that is lent.
