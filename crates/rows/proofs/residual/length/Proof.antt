@@ -7,7 +7,7 @@ use Rattle.rows.proofs.residual.length.Tie as tie
 
 returns : tie.Need-returns
 unfolding lengthOf valuesOf
-returns c = rw (c .one .ensures, c .before .dir .ensures)
+returns c = rw (c .one .ensures, c .before .before .dir .ensures)
 
 pub length-spec : {M : Type 1} → statement M
 length-spec = tie.close (tie.spec (λ c κs. search needs) (λ c κs. search needs) returns)
