@@ -1,8 +1,8 @@
--- What the code does with gradients that it holds by value is what the definitions do with the rows. Assumes nothing.
-use Prim.Native.Nat.{ℕ, zero, suc, _+_, _*_, _≤_, _<_}
+-- What the code lays, equation by equation, is what the definitions lay. Assumes nothing.
+use Prim.Native.Nat.{ℕ, suc, _+_, _*_, _≤_, _<_}
 use mathlib.Core.List.{List, [], _∷_}
-use mathlib.Core.Path.{_≡_, refl, sym, ap, _∙_}
-use native.Mathlib.Nat.{mul-le-mul-right}
+use mathlib.Core.Path.{_≡_, refl, ap, _∙_}
+use native.Mathlib.Nat.{add-mul, mul-le-mul-right}
 use native.Mathlib.Omega.{arith}
 use lib.Ieee.{Float}
 use lib.ListN.{length, getD, drop}
@@ -11,89 +11,55 @@ use Rattle.sketch.specs.declared.Active.{Active}
 use Rattle.sketch.specs.declared.Equation.{Equation}
 use Rattle.sketch.specs.declared.Line.{Line}
 use Rattle.rows.specs.Column.{Laid, laid, equationAt, rowsAt}
-use Rattle.rows.specs.Entries.{Row, noRow}
+use Rattle.rows.specs.Entries.{Row}
 use Rattle.rows.specs.Kinds.{rowsOfEquation}
 use Rattle.rows.specs.Located.{atOf}
-use Rattle.rows.specs.declared.Entry.{Entry}
 use Rattle.rows.proofs.Bounded.{Bounded}
 use Rattle.rows.proofs.Held.{held}
+use Rattle.slopes.specs.Arms.{rowsFrom, rowsInto}
 use Rattle.slopes.specs.Dense.{nextRow, rowInto, rowsNext}
-use Rattle.partials.specs.Gradients.{gradientOf, gradientsOf, entriesIn}
-use Rattle.partials.specs.declared.answer.Gradients.{Gradients}
+use Rattle.slopes.specs.declared.dense.Into.{Into}
 
 -- a row's place in a table of at most 80 rows and 80 columns
-pub place : (a n : ℕ) → a ≤ 79 → n ≤ 80 → a * n ≤ 6400
+pub place : (a n : ℕ) → a ≤ 78 → n ≤ 80 → a * n ≤ 6320
 place a n h k = omega (arith, mul-le-mul-right n h)
 
-all-held : (es : List Entry) → length es ≤ 6 → entriesIn (gradientOf es) ≡ es
-unfolding gradientOf
-all-held [] h = refl
-all-held (a ∷ []) h = refl
-all-held (a ∷ b ∷ []) h = refl
-all-held (a ∷ b ∷ c ∷ []) h = refl
-all-held (a ∷ b ∷ c ∷ d ∷ []) h = refl
-all-held (a ∷ b ∷ c ∷ d ∷ e ∷ []) h = refl
-all-held (a ∷ b ∷ c ∷ d ∷ e ∷ f ∷ []) h = refl
-all-held (a ∷ b ∷ c ∷ d ∷ e ∷ f ∷ g ∷ es) h = absurd (omega arith)
+-- where two rows fit, the first one does
+pub within : {base n : ℕ} → (base ≤ 6320) × (n ≤ 80) → (base ≤ 6400) × (n ≤ 80)
+within h = let k = h .0 in (omega arith, h .1)
 
-module _ (rs : List Row) (b : Bounded rs) (g : Gradients) (e : g ≡ gradientsOf rs) where
-  pub small-first : g .first .count ≤ 6
-  unfolding gradientsOf gradientOf
-  small-first = rw e (b .first)
+-- ---- the rows of one equation
 
-  pub small-second : g .second .count ≤ 6
-  unfolding gradientsOf gradientOf
-  small-second = rw e (b .second)
+pub two-rows : (P C : List ℕ) (to : Into) (j mid j′ : List Float) (r s : Row) → mid ≡ rowInto P C (to .n) (to .base) j (r .entries)
+    → j′ ≡ rowInto P C (to .n) (to .base + to .n) mid (s .entries) → laid 2 j′ ≡ rowsInto P C to j (r ∷ s ∷ [])
+unfolding rowsFrom
+two-rows P C to j mid j′ r s p q = rw (q, p)
 
-  first-held : entriesIn (g .first) ≡ getD rs 0 noRow .entries
-  unfolding gradientsOf
-  first-held = rw e (all-held (getD rs 0 noRow .entries) (b .first))
+count : Laid → ℕ
+count (laid m j) = m
 
-  second-held : entriesIn (g .second) ≡ getD rs 1 noRow .entries
-  unfolding gradientsOf
-  second-held = rw e (all-held (getD rs 1 noRow .entries) (b .second))
+after : ℕ → Laid → Laid
+after row (laid m j) = laid (row + m) j
 
-  counted : g .count ≡ length rs
-  unfolding gradientsOf
-  counted = ap (λ (w : Gradients). w .count) e
+module _ (P C : List ℕ) (n : ℕ) where
+  rows-from : (row base : ℕ) (j : List Float) (rs : List Row) → base ≡ row * n
+      → laid (row + length rs) (rowsFrom P C (record { n = n; base = base }) j rs) ≡ fold (nextRow P C n) (laid row j) rs
+  unfolding fold nextRow rowsFrom
+  rows-from row base j [] e = let z : row + 0 ≡ row = omega arith in ap (λ (k : ℕ). laid k j) z
+  rows-from row base j (r ∷ rs) e =
+      let next : base + n ≡ (row + 1) * n = rw (e, add-mul row 1 n) (omega arith) in
+      let rest = rows-from (row + 1) (base + n) (rowInto P C n base j (r .entries)) rs next in
+      let more : row + suc (length rs) ≡ row + 1 + length rs = omega arith in
+      ap (λ (k : ℕ). laid k (rowsFrom P C (record { n = n; base = base + n }) (rowInto P C n base j (r .entries)) rs)) more ∙ rest ∙ ap (λ (k : ℕ). fold (nextRow P C n) (laid (row + 1) (rowInto P C n k j (r .entries))) rs) e
 
-module _ (P C : List ℕ) (n row : ℕ) (j : List Float) where
-  none-laid : (rs : List Row) → length rs ≡ 0 → laid row j ≡ fold (nextRow P C n) (laid row j) rs
-  unfolding fold
-  none-laid [] h = refl
-  none-laid (a ∷ rs) h = absurd (omega arith)
+  module _ (row m : ℕ) (j j′ : List Float) (rs : List Row) (h : laid m j′ ≡ rowsInto P C (record { n = n; base = row * n }) j rs) where
+    pub rows-laid : laid (row + m) j′ ≡ fold (nextRow P C n) (laid row j) rs
+    unfolding after fold
+    rows-laid = ap (after row) h ∙ rows-from row (row * n) j rs refl
 
-  one-laid : (rs : List Row) (es : List Entry) (j′ : List Float) → es ≡ getD rs 0 noRow .entries → length rs ≡ 1 → j′ ≡ rowInto P C n (row * n) j es
-      → laid (row + 1) j′ ≡ fold (nextRow P C n) (laid row j) rs
-  unfolding fold nextRow
-  one-laid [] es j′ e h q = absurd (omega arith)
-  one-laid (a ∷ []) es j′ e h q = rw (q, e)
-  one-laid (a ∷ b ∷ rs) es j′ e h q = absurd (omega arith)
-
-  two-laid : (rs : List Row) (es fs : List Entry) (j′ j″ : List Float) → es ≡ getD rs 0 noRow .entries → fs ≡ getD rs 1 noRow .entries → length rs ≡ 2
-      → j′ ≡ rowInto P C n (row * n) j es → j″ ≡ rowInto P C n ((row + 1) * n) j′ fs → laid (row + 1 + 1) j″ ≡ fold (nextRow P C n) (laid row j) rs
-  unfolding fold nextRow
-  two-laid [] es fs j′ j″ e f h q p = absurd (omega arith)
-  two-laid (a ∷ []) es fs j′ j″ e f h q p = absurd (omega arith)
-  two-laid (a ∷ b ∷ []) es fs j′ j″ e f h q p = rw (p, q, e, f)
-  two-laid (a ∷ b ∷ c ∷ rs) es fs j′ j″ e f h q p = absurd (omega arith)
-
-  module _ (rs : List Row) (b : Bounded rs) (g : Gradients) (e : g ≡ gradientsOf rs) where
-    pub no-rows : g .count ≡ 0 → laid row j ≡ fold (nextRow P C n) (laid row j) rs
-    no-rows h = none-laid rs (sym (counted rs b g e) ∙ h)
-
-    pub one-row : (j′ : List Float) → g .count ≡ 1 → j′ ≡ rowInto P C n (row * n) j (entriesIn (g .first))
-        → laid (row + 1) j′ ≡ fold (nextRow P C n) (laid row j) rs
-    one-row j′ h q = one-laid rs _ j′ (first-held rs b g e) (sym (counted rs b g e) ∙ h) q
-
-    pub two-rows : (j′ j″ : List Float) → (g .count ≡ 0 → ⊥) → (g .count ≡ 1 → ⊥) → j′ ≡ rowInto P C n (row * n) j (entriesIn (g .first))
-        → j″ ≡ rowInto P C n ((row + 1) * n) j′ (entriesIn (g .second)) → laid (row + 1 + 1) j″ ≡ fold (nextRow P C n) (laid row j) rs
-    two-rows j′ j″ h k q p = two-laid rs _ _ j′ j″ (first-held rs b g e) (second-held rs b g e) (both (g .count) (length rs) (counted rs b g e) (b .rows) h k) q p
-      where
-        both : (m l : ℕ) → m ≡ l → l ≤ 2 → (m ≡ 0 → ⊥) → (m ≡ 1 → ⊥) → l ≡ 2
-        both zero l p q h k = absurd (h refl)
-        both (suc zero) l p q h k = absurd (k refl)
-        both (suc (suc m)) l p q h k = omega arith
+    pub few : Bounded rs → m ≤ 2
+    unfolding count
+    few b = let e : m ≡ length rs = ap count h in rw e (b .rows)
 
 -- ---- a turn of the loop over the chosen equations
 

@@ -1,15 +1,31 @@
-// A row's entries in a dense row of n free coordinates, which starts at `base` in the lent slice.
+// The dense row that entries are added into.
 ghost use mathlib.Core.Path.{_≡_};
 ghost use Prim.Native.Nat.{_+_, _≤_, _<_};
-ghost use lib.ListN.{take};
-ghost use Rattle.loops.specs.Turns.{fold};
-ghost use Rattle.slopes.specs.Dense.{freeOf, addAt, addEntry, clearedOf, rowInto};
-ghost use Rattle.partials.specs.Gradients.{entriesIn};
-use partials::Gradient;
-use rows::Entry;
+ghost use Rattle.rows.specs.Entries.{entry};
+ghost use Rattle.slopes.specs.Dense.{freeOf, addAt, addEntry, clearedOf};
+ghost use Rattle.slopes.specs.Arms.{nextOf};
+use plane::Vec2;
 use rows::located::local;
 use rows::located::wide;
 use sketch::FreeNo;
+use sketch::PointNo;
+
+// A row of n free coordinates, which starts at `base` in the lent slice.
+pub(crate) struct Into {
+    pub n: usize,
+    pub base: usize,
+}
+
+// The row after it.
+pub(crate) fn next(to: Into) -> Into
+    requires { ⌜ (to .base ≤ 6320) × (to .n ≤ 80) ⌝ }
+    ensures { λ r. ⌜ (r ≡ nextOf to) × ((r .base ≤ 6400) × (r .n ≤ 80)) ⌝ }
+{
+    Into {
+        n: to.n,
+        base: to.base + to.n,
+    }
+}
 
 fn free(columns: &[u8], c: usize) -> FreeNo
     ensures { λ r. ⌜ r ≡ freeOf (now (columns .entry)) c ⌝ }
@@ -21,65 +37,35 @@ fn free(columns: &[u8], c: usize) -> FreeNo
     }
 }
 
-fn add_at(j: &mut [f64], n: usize, base: usize, k: FreeNo, d: f64)
-    requires { ⌜ (base ≤ 6400) × (n ≤ 80) ⌝ }
-    ensures { λ _. ⌜ now (j .exit) ≡ addAt n base k d (now (j .entry)) ⌝ }
+fn add_at(jac: &mut [f64], to: Into, k: FreeNo, d: f64)
+    requires { ⌜ (to .base ≤ 6400) × (to .n ≤ 80) ⌝ }
+    ensures { λ _. ⌜ now (jac .exit) ≡ addAt (to .n) (to .base) k d (now (jac .entry)) ⌝ }
 {
     let at = k.0;
-    if at < n {
-        floats::put(j, base + at, floats::get(j, base + at) + d);
+    if at < to.n {
+        let place = to.base + at;
+        floats::put(jac, place, floats::get(jac, place) + d);
     }
 }
 
-fn add_entry(j: &mut [f64], places: &[u8], columns: &[u8], n: usize, base: usize, e: Entry)
-    requires { ⌜ (base ≤ 6400) × (n ≤ 80) ⌝ }
-    ensures { λ _. ⌜ now (j .exit) ≡ addEntry (now (places .entry)) (now (columns .entry)) n base (now (j .entry)) e ⌝ }
+// Adds what a row's gradient is with respect to the two coordinates of a point.
+pub(crate) fn push(jac: &mut [f64], places: &[u8], columns: &[u8], to: Into, p: PointNo, d: Vec2)
+    requires { ⌜ (to .base ≤ 6400) × (to .n ≤ 80) ⌝ }
+    ensures { λ _. ⌜ now (jac .exit) ≡ addEntry (now (places .entry)) (now (columns .entry)) (to .n) (to .base) (now (jac .entry)) (entry p d) ⌝ }
 {
-    let k = local(places, e.point);
-    let d = e.d;
-    add_at(j, n, base, free(columns, 2 * k), d.x);
-    add_at(j, n, base, free(columns, 2 * k + 1), d.y);
+    let k = local(places, p);
+    add_at(jac, to, free(columns, 2 * k), d.x);
+    add_at(jac, to, free(columns, 2 * k + 1), d.y);
 }
 
-fn clear_row(j: &mut [f64], n: usize, base: usize)
-    requires { ⌜ (base ≤ 6400) × (n ≤ 80) ⌝ }
-    ensures { λ _. ⌜ now (j .exit) ≡ clearedOf n base (now (j .entry)) ⌝ }
+// A row starts from +0.0.
+pub(crate) fn clear_row(jac: &mut [f64], to: Into)
+    requires { ⌜ (to .base ≤ 6400) × (to .n ≤ 80) ⌝ }
+    ensures { λ _. ⌜ now (jac .exit) ≡ clearedOf (to .n) (to .base) (now (jac .entry)) ⌝ }
 {
+    let n = to.n;
+    let base = to.base;
     for c in 0..n {
-        floats::put(j, base + c, 0.0);
+        floats::put(jac, base + c, 0.0);
     }
-}
-
-fn add_all(
-    j: &mut [f64],
-    places: &[u8],
-    columns: &[u8],
-    n: usize,
-    base: usize,
-    entries: [Entry; 6],
-    count: usize,
-)
-    requires { ⌜ (base ≤ 6400) × ((n ≤ 80) × (count ≤ 6)) ⌝ }
-    ensures { λ _. ⌜ now (j .exit) ≡ fold (addEntry (now (places .entry)) (now (columns .entry)) n base) (now (j .entry)) (take count entries) ⌝ }
-{
-    for i in 0..count {
-        let e = entries[i];
-        add_entry(j, places, columns, n, base, e);
-    }
-}
-
-pub(crate) fn row_into(
-    j: &mut [f64],
-    places: &[u8],
-    columns: &[u8],
-    n: usize,
-    base: usize,
-    g: Gradient,
-)
-    requires { ⌜ (base ≤ 6400) × ((n ≤ 80) × (g .count ≤ 6)) ⌝ }
-    ensures { λ _. ⌜ now (j .exit) ≡ rowInto (now (places .entry)) (now (columns .entry)) n base (now (j .entry)) (entriesIn g) ⌝ }
-{
-    clear_row(j, n, base);
-    let entries = g.entries;
-    add_all(j, places, columns, n, base, entries, g.count);
 }

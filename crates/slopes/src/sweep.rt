@@ -6,8 +6,8 @@ ghost use Rattle.rows.specs.Column.{laid};
 ghost use Rattle.rows.specs.Ends.{rowsGiven};
 ghost use Rattle.rows.specs.Located.{atOf};
 ghost use Rattle.slopes.specs.Dense.{nextRow, jacobianOf};
-use crate::dense::row_into;
-use partials::gradients;
+use crate::arms::gradients;
+use crate::dense::Into;
 use rows::Ends;
 use rows::ends_of;
 use rows::lines_of;
@@ -30,19 +30,8 @@ fn rows_into(
     requires { ⌜ (row ≤ 78) × (n ≤ 80) ⌝ }
     ensures { λ m. ⌜ (laid m (now (j .exit)) ≡ fold (nextRow (now (places .entry)) (now (columns .entry)) n) (laid row (now (j .entry))) (rowsGiven ends (atOf (now (places .entry)) (now (x .entry))) e)) × (m ≤ row + 2) ⌝ }
 {
-    let g = gradients(e, ends, places, x);
-    if g.count == 0 {
-        return row;
-    }
-    let first = g.first;
-    row_into(j, places, columns, n, row * n, first);
-    let next = row + 1;
-    if g.count == 1 {
-        return next;
-    }
-    let second = g.second;
-    row_into(j, places, columns, n, next * n, second);
-    next + 1
+    let to = Into { n, base: row * n };
+    row + gradients(j, places, columns, to, x, e, ends)
 }
 
 // The gradients of the rows of the chosen equations at the coordinates x, over n free coordinates, row after row in j, and how many

@@ -1,0 +1,49 @@
+-- What the calls promise, from the last to the first. Assumes nothing.
+use borrow.Author.Needs.{needs}
+use mathlib.Core.Path.{_∙_}
+use Rattle.loops.specs.Turns.{fold}
+use Rattle.rows.specs.Kinds.{equalRadiusOf}
+use Rattle.slopes.specs.Arms.{rowsFrom}
+use Rattle.slopes.specs.Dense.{rowInto}
+use Rattle.slopes.proofs.Held.{within}
+use Rattle.slopes.proofs.arms.equal_radius.Statement.{statement}
+use Rattle.slopes.proofs.arms.equal_radius.Tie as tie
+
+same-length : tie.Need-same-length
+same-length c =
+    let push4 = c .before .before in
+    let push3 = push4 .before .before .before .before in
+    let push2 = push3 .before .before .before .before .before in
+    let push = push2 .before .before .before .before .before in
+    let clear-row = push .before .before .before .before in
+    push4 .push4 .kept .0 ∙ push3 .push3 .kept .0 ∙ push2 .push2 .kept .0 ∙ push .push .kept .0 ∙ clear-row .clear-row .kept .0
+
+returns : tie.Need-returns
+unfolding equalRadiusOf rowsFrom rowInto fold
+returns c =
+    let push4 = c .before .before in
+    let push3 = push4 .before .before .before .before in
+    let neg2 = push3 .before in
+    let push2 = neg2 .before .before .before .before in
+    let neg = push2 .before in
+    let push = neg .before .before .before .before in
+    let clear-row = push .before .before .before .before in
+    let toward2 = clear-row .before .before in
+    let toward = toward2 .before in
+    rw (push4 .push4 .ensures, push3 .push3 .ensures, neg2 .neg2 .ensures, push2 .push2 .ensures, neg .neg .ensures, push .push .ensures, clear-row .clear-row .ensures, toward2 .toward2 .ensures, toward .toward .ensures)
+
+pub equal-radius-spec : {M : Type 1} → statement M
+equal-radius-spec =
+    tie.close
+    (tie.spec
+    (λ c κs. search needs)
+    (λ c κs. search needs)
+    (λ c κs. within (c .before .before .before .before .before .before .before .pre))
+    (λ c κs. within (c .before .before .before .before .before .before .before .before .before .before .before .pre))
+    (λ c κs. search needs)
+    (λ c κs. within (c .before .before .before .before .before .before .before .before .before .before .before .before .before .before .before .before .pre))
+    (λ c κs. search needs)
+    (λ c κs. within (c .before .before .before .before .before .before .before .before .before .before .before .before .before .before .before .before .before .before .before .before .before .pre))
+    (λ c κs. within (c .before .before .before .before .before .before .before .before .before .before .before .before .before .before .before .before .before .before .before .before .before .before .before .before .before .pre))
+    same-length
+    returns)

@@ -1,0 +1,36 @@
+-- What the calls promise, from the last to the first. Assumes nothing.
+use borrow.Author.Needs.{needs}
+use mathlib.Core.Path.{_∙_}
+use Rattle.loops.specs.Turns.{fold}
+use Rattle.rows.specs.Kinds.{perpendicularOf}
+use Rattle.slopes.specs.Arms.{rowsFrom}
+use Rattle.slopes.specs.Dense.{rowInto}
+use Rattle.slopes.proofs.Held.{within}
+use Rattle.slopes.proofs.arms.perpendicular.Statement.{statement}
+use Rattle.slopes.proofs.arms.perpendicular.Tie as tie
+
+same-length : tie.Need-same-length
+same-length c =
+    let through2 = c .before .before in
+    let clear-row = through2 .before .before .before .before in
+    through2 .through2 .kept .0 ∙ clear-row .clear-row .kept .0
+
+returns : tie.Need-returns
+unfolding perpendicularOf rowsFrom rowInto fold
+returns c =
+    let through2 = c .before .before in
+    let clear-row = through2 .before .before .before .before in
+    let dir2 = clear-row .before .before .before .before in
+    let dir = dir2 .before in
+    rw (through2 .through2 .ensures, clear-row .clear-row .ensures, dir2 .dir2 .ensures, dir .dir .ensures)
+
+pub perpendicular-spec : {M : Type 1} → statement M
+perpendicular-spec =
+    tie.close
+    (tie.spec
+    (λ c κs. search needs)
+    (λ c κs. search needs)
+    (λ c κs. within (c .before .before .before .before .before .before .before .before .before .pre))
+    (λ c κs. within (c .before .before .before .before .before .before .before .before .before .before .before .before .before .pre))
+    same-length
+    returns)
