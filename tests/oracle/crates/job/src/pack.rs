@@ -13,12 +13,26 @@ pub fn next(input: &mut impl BufRead) -> io::Result<Option<Record>> {
     if input.read_line(&mut header)? == 0 {
         return Ok(None);
     }
-    let bad = || io::Error::new(io::ErrorKind::InvalidData, format!("a record begins with its length, not with {header:?}"));
-    let line = header.strip_suffix('\n').ok_or_else(bad)?;
+    let line = header.strip_suffix('\n').ok_or_else(|| bad(&header))?;
     let (length, class) = line.split_once(' ').unwrap_or((line, ""));
-    let mut text = vec![0; length.parse().map_err(|_| bad())?];
-    input.read_exact(&mut text)?;
-    Ok(Some(Record { class: class.to_string(), text }))
+    Ok(Some(Record { class: class.to_string(), text: bytes(input, length)? }))
+}
+
+/// The next text and its reply of a recorded sample, or `None` at its end.
+pub fn next_answered(input: &mut impl BufRead) -> io::Result<Option<(Vec<u8>, Vec<u8>)>> {
+    let Some(Record { class: reply, text }) = next(input)? else { return Ok(None) };
+    Ok(Some((text, bytes(input, &reply)?)))
+}
+
+/// So many bytes, or an error where there are fewer.
+fn bytes(input: &mut impl BufRead, length: &str) -> io::Result<Vec<u8>> {
+    let mut bytes = vec![0; length.parse().map_err(|_| bad(length))?];
+    input.read_exact(&mut bytes)?;
+    Ok(bytes)
+}
+
+fn bad(header: &str) -> io::Error {
+    io::Error::new(io::ErrorKind::InvalidData, format!("a record begins with its length, not with {header:?}"))
 }
 
 pub fn put(output: &mut impl Write, text: &[u8]) -> io::Result<()> {

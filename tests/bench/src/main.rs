@@ -6,17 +6,12 @@
 //! fitter takes. "reply" is from text to reply on both sides; "answer" is the fitter's text to reply beside the Rust's build to
 //! answer, which reads and prints nothing.
 
-#[allow(dead_code)]
-mod answer;
-#[allow(dead_code)]
-mod pack;
-#[allow(dead_code)]
-mod sakiromuk;
-
-use job::{Answer, Build};
-use sakiromuk::Fitter;
 use std::hint::black_box;
 use std::time::{Duration, Instant};
+
+use job::{Answer, Build, pack};
+use oracle::answer;
+use rooms::sakiromuk::Fitter;
 
 const ROUNDS: usize = 9;
 /// A round runs a job so often that it takes at least this long.
