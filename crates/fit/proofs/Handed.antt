@@ -11,9 +11,10 @@ use Rattle.members.specs.Lists.{numbersOf}
 use Rattle.members.specs.declared.Listed.{Listed}
 use Rattle.rounds.specs.Holds.{fit-holds}
 use Rattle.rounds.specs.Problem.{valuesAt}
+use Rattle.rounds.specs.Promise.{convergedBy}
 use Rattle.rounds.specs.Solve.{Outcome, converged, failed, within}
 use Rattle.sketch.specs.declared.Build.{Build}
-use Rattle.fit.specs.Fits.{Fits, short, refusal, outcomeIn, padded, fittedBy, convergedBy}
+use Rattle.fit.specs.Fits.{Fits, short, refusal, outcomeIn, padded, fittedBy}
 use Rattle.fit.specs.Frames.{startIn}
 use Rattle.fit.specs.declared.Fitted.{Fitted}
 use Rattle.fit.specs.declared.Frame.{Frame}

@@ -10,10 +10,10 @@ use lib.Seq.{getD-take}
 use Rattle.loops.specs.Turns.{fold, fold-next, fold-done}
 use Rattle.members.specs.Lists.{Lists, numbersOf, numbers-are}
 use Rattle.members.specs.declared.Listed.{Listed}
-use Rattle.rounds.specs.Promise.{zeroed}
+use Rattle.rounds.specs.Promise.{zeroed, convergedBy}
 use Rattle.rounds.specs.Solve.{Outcome, converged, failed}
 use Rattle.sketch.specs.declared.Build.{Build}
-use Rattle.fit.specs.Fits.{outcomeIn, fittedBy, short, wide, square, Fits, converges, suspect, mark, withouts, jacobianLeft, productLeft, convergedBy, Tests, Suspects, Marks}
+use Rattle.fit.specs.Fits.{outcomeIn, fittedBy, short, wide, square, Fits, converges, suspect, mark, withouts, jacobianLeft, productLeft, Tests, Suspects, Marks}
 use Rattle.fit.specs.Frames.{startIn}
 use Rattle.fit.specs.declared.Fitted.{Fitted}
 use Rattle.fit.specs.declared.Frame.{Frame}

@@ -16,6 +16,7 @@ use Rattle.groups.specs.Touches.{touchedIn}
 use Rattle.loops.specs.Turns.{turns, upTo, fold, every}
 use Rattle.members.specs.Movable.{nowhere}
 use Rattle.rows.specs.Column.{equationAt}
+use Rattle.sketch.specs.Blank.{origin, pointIn, blankPoint, blankActive, sample}
 use Rattle.sketch.specs.Check.{checkOf}
 use Rattle.sketch.specs.Involved.{lineAt}
 use Rattle.sketch.specs.Rows.{moreRows, rowsOf}
@@ -25,8 +26,7 @@ use Rattle.sketch.specs.declared.Checked.the-variants.{Passes}
 use Rattle.sketch.specs.declared.Equation.{Equation}
 use Rattle.sketch.specs.declared.Line.{Line}
 use Rattle.sketch.specs.declared.LineNo.{LineNo}
-use Rattle.sketch.specs.declared.State.the-variants.{Free, Kept}
-use Rattle.fit.specs.Builds.{point, held, build}
+use Rattle.sketch.specs.declared.State.the-variants.{Kept}
 use Rattle.fit.specs.Own.{pointsOfGroup, equationsOfGroup, linesNamed, SharesGroup}
 
 abbrev line : ℕ → ℕ → Line
@@ -37,11 +37,11 @@ lengthIsOne l = record { equation = Equation.Length (record { 0 = l }) one }
 
 -- points 0 and 2 are a group too
 abbrev first : Build
-first = build (replicate 5 (point Free)) (line 3 4 ∷ line 0 2 ∷ []) (lengthIsOne 0 ∷ lengthIsOne 1 ∷ [])
+first = sample origin one (replicate 5 blankPoint) (line 3 4 ∷ line 0 2 ∷ []) (lengthIsOne 0 ∷ lengthIsOne 1 ∷ []) []
 
 -- no other group, no other line, and other points
 abbrev second : Build
-second = build (point Kept ∷ point Kept ∷ point Kept ∷ point Free ∷ point Free ∷ []) (line 3 4 ∷ []) (lengthIsOne 0 ∷ held ∷ [])
+second = sample origin one (pointIn Kept ∷ pointIn Kept ∷ pointIn Kept ∷ blankPoint ∷ blankPoint ∷ []) (line 3 4 ∷ []) (lengthIsOne 0 ∷ blankActive ∷ []) []
 
 pub passing : (checkOf first ≡ Passes) × (checkOf second ≡ Passes)
 unfolding checkOf le lt eq neg ofBits every fold moreRows rowsOf

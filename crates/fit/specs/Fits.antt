@@ -143,12 +143,6 @@ jacobianLeft b f p k = zeroed (wide b f (withouts b f k)) p
 unfoldable pub productLeft : Build → Frame → List Float → ℕ → List Float
 productLeft b f q k = zeroed (square b (withouts b f k)) q
 
-abbrev pub convergedBy : Ending → Bool
-convergedBy Converged = true
-convergedBy Failed = false
-convergedBy TooMany = false
-convergedBy TooShort = false
-
 -- the fit without equation k, and without each in turn, in areas that are long enough
 pub record Tests (b : Build) (f : Frame) (k : ℕ) (p q r p′ q′ r′ : List Float) (t : Bool) : Type 0 where
   pub answer : t ≡ suspect b f k

@@ -6,16 +6,14 @@ use mathlib.Core.Bool.{Bool}
 use mathlib.Core.List.{List, [], _∷_, List·Memᴰ}
 use mathlib.Core.Path.{_≡_}
 use lib.Ieee.{Float}
-use lib.ListN.{length, getD}
+use lib.ListN.{getD}
 use Rattle.groups.specs.Chains.{pointsIn, equationsIn}
-use Rattle.groups.specs.Listed.{groupsOf}
-use Rattle.groups.specs.Touches.{touchedBy}
+use Rattle.groups.specs.Listed.{groupingOf}
 use Rattle.groups.specs.declared.Grouping.{Grouping}
 use Rattle.members.specs.Movable.{nowhere}
 use Rattle.rounds.specs.Solve.{Outcome}
 use Rattle.rows.specs.Column.{equationAt}
 use Rattle.sketch.specs.Involved.{lineAt}
-use Rattle.sketch.specs.Parts.{equationsOf}
 use Rattle.sketch.specs.declared.Build.{Build}
 use Rattle.sketch.specs.declared.Equation.{Equation}
 use Rattle.sketch.specs.declared.LineNo.{LineNo}
@@ -24,9 +22,6 @@ use Rattle.fit.specs.Frames.{frameOf}
 use Rattle.fit.specs.declared.Frame.{Frame}
 
 -- ---- a group of a build
-
-abbrev pub groupingOf : Build → Grouping
-groupingOf b = groupsOf (touchedBy b) (length (equationsOf b))
 
 -- the points and the equations of group g, by number
 abbrev pub pointsOfGroup : Build → ℕ → List ℕ

@@ -10,6 +10,7 @@ use Rattle.floats.specs.Ops.{_⊕_, zero⁺, zero⁻, one, two}
 use Rattle.groups.specs.Chains.{pointsIn, equationsIn}
 use Rattle.groups.specs.Examples as groups-worked
 use Rattle.groups.specs.Examples.{Group}
+use Rattle.groups.specs.Listed.{groupingOf}
 use Rattle.groups.specs.declared.Grouping.{Grouping}
 use Rattle.level.specs.Examples as level-worked
 use Rattle.level.specs.Level.{levelOf}
@@ -18,6 +19,7 @@ use Rattle.members.specs.Examples.{unmoved}
 use Rattle.members.specs.Scale.{moveBy}
 use Rattle.root.specs.Examples.{root-two, root-least, root-minus-zero}
 use Rattle.root.specs.Root.{sqrtOf}
+use Rattle.sketch.specs.Blank.{origin, pointIn, blankPoint, blankActive, sample}
 use Rattle.sketch.specs.declared.Active.{Active}
 use Rattle.sketch.specs.declared.Equation.{Equation}
 use Rattle.sketch.specs.declared.State.{State}
@@ -25,8 +27,6 @@ use Rattle.sketch.specs.declared.State.the-variants.{Free, Kept}
 use Rattle.solver.specs.Examples.{worked}
 use Rattle.solver.specs.Steps.{solutionOf}
 use Rattle.solver.specs.Sums.{largerAbs, maxAbsOf}
-use Rattle.fit.specs.Builds.{point, held, build}
-use Rattle.fit.specs.Own.{groupingOf}
 
 abbrev coincident : ℕ → ℕ → Active
 coincident p q = record { equation = Equation.Coincident (record { 0 = p }) (record { 0 = q }) }
@@ -49,11 +49,11 @@ groupsFrom g j (suc n) = group (pointsIn g j) (equationsIn g j) ∷ groupsFrom g
 
 -- of a build of five free points
 abbrev groupsWith : List Active → List Group
-groupsWith es = let g = groupingOf (build (replicate 5 (point Free)) [] es) in groupsFrom g 0 (g .count)
+groupsWith es = let g = groupingOf (sample origin one (replicate 5 blankPoint) [] es []) in groupsFrom g 0 (g .count)
 
 -- of the points 0, 1 and 2 in these states, with y level (0, 1) and (1, 2)
 abbrev levelled : State → State → State → List Float → List Float
-levelled s t u points = levelOf (build (point s ∷ point t ∷ point u ∷ []) [] (levelY 0 1 ∷ levelY 1 2 ∷ [])) points
+levelled s t u points = levelOf (sample origin one (pointIn s ∷ pointIn t ∷ pointIn u ∷ []) [] (levelY 0 1 ∷ levelY 1 2 ∷ []) []) points
 
 abbrev 3·0 : Float
 3·0 = ofBits binary64 0x4008_0000_0000_0000
@@ -75,7 +75,7 @@ pub record BothSides : Type 0 where
   -- (b) coincident(4,3), coincident(0,2): group 0,2 with equation 1, then 3,4 with equation 0
   pub b : groupsWith (coincident 4 3 ∷ coincident 0 2 ∷ []) ≡ group (0 ∷ 2 ∷ []) (1 ∷ []) ∷ group (3 ∷ 4 ∷ []) (0 ∷ []) ∷ []
   -- (c) Held only: no group
-  pub c : groupsWith (held ∷ []) ≡ []
+  pub c : groupsWith (blankActive ∷ []) ≡ []
   -- (d) distance(2,2): group 2
   pub d : groupsWith (distance 2 2 ∷ []) ≡ group (2 ∷ []) (0 ∷ []) ∷ []
   -- (e) level y (0,1),(1,2), point 2 fixed at 5: all 5

@@ -2,26 +2,13 @@
 ghost use mathlib.Core.Bool.{false};
 ghost use mathlib.Core.Path.{_≡_};
 ghost use lib.ListN.{set};
-ghost use Rattle.fit.specs.Fits.{Marks, Suspects, Tests, short, convergedBy};
+ghost use Rattle.fit.specs.Fits.{Marks, Suspects, Tests, short};
 use crate::Frame;
 use crate::Marked;
 use crate::fits::fit;
 use crate::ranks::numbers;
-use rounds::Ending;
-use rounds::Solved;
+use rounds::converged;
 use sketch::Build;
-
-fn converged(s: Solved) -> bool
-    ensures { λ t. ⌜ t ≡ convergedBy (s .ending) ⌝ }
-{
-    let ending = s.ending;
-    match ending {
-        Ending::Converged => true,
-        Ending::Failed => false,
-        Ending::TooMany => false,
-        Ending::TooShort => false,
-    }
-}
 
 // Whether the rest converges without equation k.
 fn suspect(b: Build, f: Frame, k: usize, p: &mut [f64], q: &mut [f64], r: &mut [f64]) -> bool
@@ -31,7 +18,7 @@ fn suspect(b: Build, f: Frame, k: usize, p: &mut [f64], q: &mut [f64], r: &mut [
     let own = f.equations;
     let t = fit(b, f, members::without(own, k), p, q, r);
     let s = t.solved;
-    converged(s)
+    converged(s.ending)
 }
 
 // No equation has a number past the marks.

@@ -1,12 +1,12 @@
 // What every room needs of f64 and of slices of them. Each function is total, and its promise is an equation.
 ghost use mathlib.Core.Path.{_≡_};
-ghost use Prim.Native.Nat.{min};
 ghost use lib.ListN.{length, getD, set, replicate};
 ghost use lib.Ieee.{nan};
 ghost use lib.Ieee.Scale.{finite};
-ghost use Rattle.floats.specs.Lists.{copiedOf};
+ghost use Rattle.floats.specs.Lists.{copiedOf, swapAt};
 ghost use Rattle.floats.specs.Magnitude.{absOf, magnitudeOf, maxOf};
 ghost use Rattle.floats.specs.Ops.{zero⁺};
+use loops::smaller;
 
 // x without its sign, by its bits: a branch on the sign would be mispredicted every second time in a scan over a matrix. A
 // NaN has no bits of its own, so it is tested for first.
@@ -83,18 +83,22 @@ pub fn clear(s: &mut [f64])
     }
 }
 
-fn shorter(a: usize, b: usize) -> usize
-    ensures { λ r. ⌜ r ≡ min a b ⌝ }
-{
-    if a < b { a } else { b }
-}
-
 // As much of `from` as there is room for goes to the head of `to`.
 pub fn copy(from: &[f64], to: &mut [f64])
     ensures { λ _. ⌜ now (to .exit) ≡ copiedOf (now (from .entry)) (now (to .entry)) ⌝ }
 {
-    let n = shorter(from.len(), to.len());
+    let n = smaller(from.len(), to.len());
     for i in 0..n {
         to[i] = from[i];
     }
+}
+
+// What stands at i and at j change places.
+pub fn swap(s: &mut [f64], i: usize, j: usize)
+    ensures { λ _. ⌜ now (s .exit) ≡ swapAt i j (now (s .entry)) ⌝ }
+{
+    let x = get(s, i);
+    let y = get(s, j);
+    put(s, i, y);
+    put(s, j, x);
 }

@@ -9,11 +9,11 @@ use native.Mathlib.Omega.{arith}
 use lib.ListN.{length, drop, set, replicate, length-map, length-replicate}
 use lib.Seq.{drop-nil, sets, sets-eq}
 use Rattle.loops.specs.Turns.{upTo, turns}
+use Rattle.sketch.specs.Blank.{filled}
 use Rattle.spelling.proofs.Forms.{Reads, anything}
 use Rattle.spelling.proofs.Steps.{Here}
 use Rattle.spelling.specs.declared.Cursor.{Cursor}
 use Rattle.grammar.specs.Job.{Each}
-use Rattle.grammar.specs.Meaning.{filled}
 use Rattle.grammar.specs.Printed.{each}
 
 module _ {A : Type 0} (read : List ℕ → Cursor → A) (next : List ℕ → Cursor → Cursor) where

@@ -5,6 +5,7 @@ use mathlib.Core.Path.{_≡_, refl, sym, ap, _∙_}
 use lib.ListN.{set}
 use Rattle.loops.specs.Turns.{fold}
 use Rattle.phrases.specs.Fields.{vecAt}
+use Rattle.sketch.specs.Involved.{noLine}
 use Rattle.spelling.proofs.FloatForm.{float-reads}
 use Rattle.spelling.proofs.Forms.{Reads, anything, and-reads, as-reads, after-word, then-word}
 use Rattle.spelling.proofs.WholeForm.{whole-reads}
@@ -13,12 +14,13 @@ use Rattle.spelling.specs.Letters.{ascii}
 use Rattle.spelling.specs.Places.{eatOf}
 use Rattle.spelling.specs.Printed.{wholeText}
 use Rattle.spelling.specs.declared.Cursor.{Cursor}
-use Rattle.text.specs.Items.{blankPoint, blankLine, blankActive, blankMeasured, pointInto, lineInto, equationInto, measureInto, pointsAt, linesAt, equationsAt, measuresAt}
+use Rattle.sketch.specs.Blank.{blankPoint, blankActive, blankMeasured, filled}
+use Rattle.text.specs.Items.{pointInto, lineInto, equationInto, measureInto, pointsAt, linesAt, equationsAt, measuresAt}
 use Rattle.text.specs.Lines.{pointLine, lineLine, equationLine, measureLine}
 use Rattle.text.specs.Reader.{countAt, buildAt}
 use Rattle.text.specs.declared.CountsRead.{CountsRead}
 use Rattle.grammar.specs.Job.{Whole, Pattern, Place, PointItem, LineItem, EquationItem, MeasureItem, PlaceFits, PointFits, LineFits, EquationFits, MeasureFits, Counts, CountsFit, Job}
-use Rattle.grammar.specs.Meaning.{pointOf, lineOf, activeOf, measuredOf, filled, buildOf}
+use Rattle.grammar.specs.Meaning.{pointOf, lineOf, activeOf, measuredOf, buildOf}
 use Rattle.grammar.specs.Printed.{countsText, restText}
 use Rattle.grammar.proofs.ItemForms.{readEach, nextEach, EachFits, each-reads, loop-is, length-each}
 use Rattle.grammar.proofs.LineForms.{readPlace, vec-is, place-reads, newline, readPoint, point-is, point-reads, readLine, line-is, line-reads, readEquationLine, equation-line-is, equation-line-reads, readMeasureLine, measure-line-is, measure-line-reads}
@@ -83,11 +85,11 @@ module _ (s : List ℕ) (c : Cursor) (k : ℕ) where
       loop-is readPoint (λ s c. pointLine s c .next) pointOf s (λ l d. record { points = l; next = d }) (pointInto s)
       (λ i l d. ap (λ p. record { points = set l i p; next = pointLine s d .next }) (point-is s d)) k 40 blankPoint c h
 
-  lines-are : k ≤ 40 → linesAt s c k ≡ record { lines = filled 40 blankLine (map lineOf (readLines k s c)); next = nextLines k s c }
+  lines-are : k ≤ 40 → linesAt s c k ≡ record { lines = filled 40 noLine (map lineOf (readLines k s c)); next = nextLines k s c }
   unfolding lineInto
   lines-are h =
       loop-is readLine (λ s c. lineLine s c .next) lineOf s (λ l d. record { lines = l; next = d }) (lineInto s)
-      (λ i l d. ap (λ p. record { lines = set l i p; next = lineLine s d .next }) (line-is s d)) k 40 blankLine c h
+      (λ i l d. ap (λ p. record { lines = set l i p; next = lineLine s d .next }) (line-is s d)) k 40 noLine c h
 
   equations-are : k ≤ 40 → equationsAt s c k ≡ record { equations = filled 40 blankActive (map activeOf (readEquations k s c)); next = nextEquations k s c }
   unfolding equationInto

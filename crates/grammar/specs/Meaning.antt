@@ -1,12 +1,14 @@
 -- The build that a job means: a pattern is the float with those bits, + and - are 1.0 and -1.0, and what stands past a count is blank.
-use mathlib.Core.List.{List, [], _∷_, _++_, map}
-use Prim.Native.Nat.{ℕ, _-_}
+use mathlib.Core.List.{List, [], _∷_, map}
+use Prim.Native.Nat.{ℕ}
 use lib.Ieee.{Float, binary64, ofBits, neg}
-use lib.ListN.{length, replicate}
+use lib.ListN.{length}
 use Rattle.floats.specs.Ops.{one}
 use Rattle.phrases.specs.Fields.{pointNo, lineNo}
 use Rattle.phrases.specs.declared.Kind.{Kind}
 use Rattle.plane.specs.declared.Vec2.{Vec2}
+use Rattle.sketch.specs.Blank.{blankPoint, blankActive, blankMeasured, filled}
+use Rattle.sketch.specs.Involved.{noLine}
 use Rattle.sketch.specs.declared.Active.{Active}
 use Rattle.sketch.specs.declared.Build.{Build}
 use Rattle.sketch.specs.declared.Contact.{Contact}
@@ -19,7 +21,6 @@ use Rattle.sketch.specs.declared.Point.{Point}
 use Rattle.sketch.specs.declared.PointNo.{PointNo}
 use Rattle.sketch.specs.declared.Rad.{Rad}
 use Rattle.sketch.specs.declared.State.{State}
-use Rattle.text.specs.Items.{blankPoint, blankLine, blankActive, blankMeasured}
 use Rattle.grammar.specs.Job.{Axis, axisX, axisY, Sign, plus, minus, Radius, byPoint, plain, Touch, outside, inside, Field, point, line, value, axis, side, radius, contact, Content, Contents, fieldsOf, Gauge, ofDistance, ofAxisDistance, ofLength, ofPointLine, ofRadius, kindOf, valueless, Place, Standing, free, kept, placed, PointItem, LineItem, EquationItem, MeasureItem, Job}
 
 abbrev pub floatOf : ℕ → Float
@@ -119,17 +120,13 @@ activeOf e = record { equation = equationFrom (e .kind) (meansOf (fieldsOf (e .k
 abbrev pub measuredOf : MeasureItem → Measured
 measuredOf m = record { measure = measureFrom (m .gauge) (meansOf (valueless (fieldsOf (kindOf (m .gauge)))) (m .contents)) }
 
--- n places: the items, and blanks after them
-abbrev pub filled : {A : Type 0} → ℕ → A → List A → List A
-filled n blank l = l ++ replicate (n - length l) blank
-
 abbrev pub buildOf : Job → Build
 buildOf j = record {
   centre = vecOf (j .centre);
   size = floatOf (j .size);
   points = filled 40 blankPoint (map pointOf (j .points));
   «point_count» = length (j .points);
-  lines = filled 40 blankLine (map lineOf (j .lines));
+  lines = filled 40 noLine (map lineOf (j .lines));
   «line_count» = length (j .lines);
   equations = filled 40 blankActive (map activeOf (j .equations));
   «equation_count» = length (j .equations);

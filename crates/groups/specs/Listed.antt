@@ -4,8 +4,11 @@ use Prim.Native.Nat.{ℕ, _+_}
 use mathlib.Core.Bool.{Bool, true, false, cond}
 use mathlib.Core.List.{List, [], _∷_}
 use lib.Dec.{eqb}
-use lib.ListN.{getD, set, replicate}
+use lib.ListN.{length, getD, set, replicate}
+use Rattle.groups.specs.Touches.{touchedBy}
 use Rattle.loops.specs.Turns.{upTo}
+use Rattle.sketch.specs.Parts.{equationsOf}
+use Rattle.sketch.specs.declared.Build.{Build}
 use Rattle.groups.specs.Parents.{Gives, rootOf, alone, joined}
 use Rattle.groups.specs.Tied.{tiedOf}
 use Rattle.groups.specs.declared.Grouping.{Grouping}
@@ -62,3 +65,7 @@ groupsOf t n =
       «of_equation» = equations .answer;
       count = points .answer .count;
     }
+
+-- the groups of a build
+abbrev pub groupingOf : Build → Grouping
+groupingOf b = groupsOf (touchedBy b) (length (equationsOf b))

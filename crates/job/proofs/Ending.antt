@@ -13,12 +13,13 @@ use Rattle.fit.specs.Fits.{Marks, short}
 use Rattle.fit.specs.Frames.{frameOf}
 use Rattle.fit.specs.declared.Frame.{Frame}
 use Rattle.fit.specs.declared.Marked.{Marked}
+use Rattle.groups.specs.Listed.{groupingOf}
 use Rattle.groups.specs.declared.Grouping.{Grouping}
 use Rattle.rounds.specs.Promise.{zeroed}
 use Rattle.sketch.specs.declared.Build.{Build}
 use Rattle.sketch.specs.declared.Checked.the-variants.{Passes, Ends}
 use Rattle.sketch.specs.declared.Ending.{Ending}
-use Rattle.job.specs.Groups.{fits, fails, resultOf, lowestOf, groupsFrom, begin, answerBy, outputBy, groupingOf, fitOf}
+use Rattle.job.specs.Groups.{fits, fails, resultOf, lowestOf, groupsFrom, begin, answerBy, outputBy, fitOf}
 use Rattle.job.specs.Promise.{verdict, Does}
 use Rattle.job.specs.declared.Went.{Went}
 

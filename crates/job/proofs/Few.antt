@@ -8,9 +8,9 @@ use native.Mathlib.Omega.{arith}
 use lib.ListN.{getD}
 use Rattle.loops.specs.Keeps.{upTo-keeps}
 use Rattle.groups.proofs.Laws.{point-count}
-use Rattle.groups.specs.Listed.{nothing, pointOf, listPoint, listPoints, groupsOf}
+use Rattle.groups.specs.Listed.{nothing, pointOf, listPoint, listPoints, groupsOf, groupingOf}
 use Rattle.sketch.specs.declared.Build.{Build}
-use Rattle.job.specs.Groups.{groupCount, groupingOf}
+use Rattle.job.specs.Groups.{groupCount}
 
 -- a point opens at most one group
 listed : (tied : List Bool) (ps : List ℕ) → listPoints tied ps .answer .count ≤ 40

@@ -16,6 +16,7 @@ use Rattle.fit.specs.Fits.{freedomOf, overRows}
 use Rattle.fit.specs.Frames.{frameOf}
 use Rattle.groups.proofs.Theorem.{groups-are-chains}
 use Rattle.groups.specs.Chains.{Touches, placesFrom, equationsIn}
+use Rattle.groups.specs.Listed.{groupingOf}
 use Rattle.groups.specs.Touches.{number, held, touchedIn}
 use Rattle.loops.specs.Turns.{fold}
 use Rattle.members.specs.Lists.{numbersOf}
@@ -31,7 +32,7 @@ use Rattle.sketch.specs.declared.Active.{Active}
 use Rattle.sketch.specs.declared.Build.{Build}
 use Rattle.sketch.specs.declared.Checked.the-variants.{Passes}
 use Rattle.sketch.specs.declared.Line.{Line}
-use Rattle.job.specs.Groups.{freedomIn, frameIn, groupingOf}
+use Rattle.job.specs.Groups.{freedomIn, frameIn}
 
 -- rows are only added
 grows : (l : List Active) (t : ℕ) → t ≤ fold rows.moreRows t l

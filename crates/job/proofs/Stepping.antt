@@ -6,7 +6,7 @@ use mathlib.Core.Path.{_≡_, sym, ap, _∙_}
 use native.Mathlib.Omega.{arith}
 use lib.Ieee.{Float}
 use lib.ListN.{length, set}
-use Rattle.fit.specs.Fits.{Fits, short, outcomeIn, fittedBy, convergedBy, worstOf}
+use Rattle.fit.specs.Fits.{Fits, short, outcomeIn, fittedBy, worstOf}
 use Rattle.fit.specs.Frames.{frameOf, startIn}
 use Rattle.fit.specs.declared.Fitted.{Fitted}
 use Rattle.fit.specs.declared.Frame.{Frame}
@@ -14,6 +14,7 @@ use Rattle.floats.specs.Magnitude.{maxOf}
 use Rattle.groups.specs.declared.Grouping.{Grouping}
 use Rattle.members.specs.Lists.{numbersOf}
 use Rattle.members.specs.Scale.{unscaleOf}
+use Rattle.rounds.specs.Promise.{convergedBy}
 use Rattle.rounds.specs.Solve.{Outcome, converged, failed}
 use Rattle.sketch.specs.declared.Build.{Build}
 use Rattle.job.specs.Groups.{Result, fits, fails, resultOf, lowestOf, freedomIn, takenOf, stepBy, stepOf, groupsFrom, begin}

@@ -12,6 +12,7 @@ use lib.Ieee.{Float}
 use lib.ListN.{length}
 use Rattle.fit.specs.Fits.{converges, padded}
 use Rattle.fit.specs.Frames.{startIn}
+use Rattle.groups.specs.Listed.{groupingOf}
 use Rattle.groups.specs.declared.Grouping.{Grouping}
 use Rattle.rounds.specs.Solve.{Outcome, converged, failed}
 use Rattle.sketch.specs.Check.{checkOf, ordered, overBound, outOfBounds, refersToNothing, overRows}
@@ -21,7 +22,7 @@ use Rattle.sketch.specs.declared.Checked.the-variants.{Passes, Ends}
 use Rattle.sketch.specs.declared.Ending.{Ending}
 use Rattle.sketch.specs.declared.Ending.the-variants.{Fitted, TooLong, BadForm, TooMany, OutOfBounds, NoSuchItem, TooManyRows, NotConverged, TooShort}
 use Rattle.job.specs.Given.{endingOf, fitsAt, SomeFails, AllFit, Sound}
-use Rattle.job.specs.Groups.{Result, fits, fails, takenOf, outcomeAt, frameIn, stepOf, groupsFrom, groupCount, begin, groupingOf, fitOf, answerBy, outputBy}
+use Rattle.job.specs.Groups.{Result, fits, fails, takenOf, outcomeAt, frameIn, stepOf, groupsFrom, groupCount, begin, fitOf, answerBy, outputBy}
 use Rattle.job.specs.Promise.{noRoom, verdictOf, verdict, answerAfter, outputAfter}
 use Rattle.job.specs.declared.Doing.{Doing}
 use Rattle.job.proofs.Few.{all-counted}

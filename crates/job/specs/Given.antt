@@ -4,10 +4,11 @@ use Prim.Native.Nat.{ℕ, _<_}
 use mathlib.Core.Bool.{Bool, true, false}
 use mathlib.Core.Path.{_≡_}
 use Rattle.fit.specs.Fits.{converges}
+use Rattle.groups.specs.Listed.{groupingOf}
 use Rattle.sketch.specs.Check.{overBound, outOfBounds, refersToNothing, overRows}
 use Rattle.sketch.specs.declared.Build.{Build}
 use Rattle.sketch.specs.declared.Ending.{Ending}
-use Rattle.job.specs.Groups.{outcomeAt, groupingOf}
+use Rattle.job.specs.Groups.{outcomeAt}
 use Rattle.job.specs.Promise.{noRoom, verdictOf, answerAfter}
 
 -- how a job ends, with an output and areas of these lengths

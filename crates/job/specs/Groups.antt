@@ -14,15 +14,13 @@ use Rattle.fit.specs.declared.Frame.{Frame}
 use Rattle.fit.specs.declared.Degrees.{Degrees}
 use Rattle.floats.specs.Magnitude.{maxOf}
 use Rattle.floats.specs.Ops.{zero⁺}
-use Rattle.groups.specs.Listed.{groupsOf}
-use Rattle.groups.specs.Touches.{touchedBy}
+use Rattle.groups.specs.Listed.{groupingOf}
 use Rattle.groups.specs.declared.Grouping.{Grouping}
 use Rattle.loops.specs.Turns.{upTo}
 use Rattle.members.specs.Lists.{numbersOf}
 use Rattle.members.specs.Movable.{fixedOf, nowhere}
 use Rattle.members.specs.Scale.{unscaleOf}
 use Rattle.rounds.specs.Solve.{Outcome, converged, failed}
-use Rattle.sketch.specs.Parts.{equationsOf}
 use Rattle.sketch.specs.declared.Build.{Build}
 use Rattle.sketch.specs.declared.Point.{Point}
 use Rattle.job.specs.Points.{drawn, handedOut}
@@ -118,10 +116,6 @@ module _ (b : Build) (gr : Grouping) where
 unfoldable pub begin : Build → Doing
 begin b = record { points = drawn (b .points); freedom = 0; worst = zero⁺; groups = replicate 40 blankGroup }
 
--- the groups of a build
-abbrev pub groupingOf : Build → Grouping
-groupingOf b = groupsOf (touchedBy b) (length (equationsOf b))
-
--- and what they come to
+-- what the groups of a build come to
 unfoldable pub fitOf : Build → Result
 fitOf b = groupsFrom b (groupingOf b) (groupCount b (groupingOf b)) 0 (begin b)

@@ -10,13 +10,14 @@ use lib.ListN.{length}
 use Rattle.answer.specs.Endings.{refusedOf}
 use Rattle.answer.specs.declared.Answer.{Answer}
 use Rattle.floats.specs.Only.{only-answer}
+use Rattle.groups.specs.Listed.{groupingOf}
 use Rattle.rounds.specs.Promise.{zeroed}
 use Rattle.sketch.specs.Check.{overBound, checkOf}
 use Rattle.sketch.specs.declared.Build.{Build}
 use Rattle.sketch.specs.declared.Checked.{Checked}
 use Rattle.sketch.specs.declared.Checked.the-variants.{Passes, Ends}
 use Rattle.sketch.specs.declared.Ending.the-variants.{TooMany, TooShort}
-use Rattle.job.specs.Groups.{groupingOf, fitOf, answerBy, outputBy}
+use Rattle.job.specs.Groups.{fitOf, answerBy, outputBy}
 
 -- 9: output shorter than two numbers per point plus one per measure, or any of three work areas shorter than 8,192
 abbrev pub noRoom : Build → ℕ → ℕ → ℕ → ℕ → Bool

@@ -2,7 +2,8 @@
 ghost use mathlib.Core.Path.{_≡_};
 ghost use Prim.Native.Nat.{_+_, _*_, _≤_};
 ghost use lib.ListN.{length};
-ghost use Rattle.job.specs.Groups.{fits, fails, groupingOf, fitOf, answerBy, outputBy};
+ghost use Rattle.groups.specs.Listed.{groupingOf};
+ghost use Rattle.job.specs.Groups.{fits, fails, fitOf, answerBy, outputBy};
 ghost use Rattle.job.specs.Promise.{Does};
 ghost use Rattle.rounds.specs.Promise.{zeroed};
 use crate::Doing;

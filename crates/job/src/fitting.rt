@@ -2,7 +2,6 @@
 ghost use mathlib.Core.Path.{_≡_};
 ghost use Prim.Native.Nat.{_+_, _≤_, _<_};
 ghost use lib.ListN.{length};
-ghost use Rattle.fit.specs.Fits.{convergedBy};
 ghost use Rattle.job.specs.Groups.{lowestOf, takenOf, resultOf, stepOf};
 use crate::Doing;
 use crate::Went;
@@ -11,7 +10,7 @@ use answer::GroupFit;
 use fit::Fitted;
 use fit::Frame;
 use groups::Grouping;
-use rounds::Ending;
+use rounds::converged;
 use sketch::Build;
 
 pub(crate) fn lowest(f: Frame) -> usize
@@ -20,17 +19,6 @@ pub(crate) fn lowest(f: Frame) -> usize
     let listed = f.points;
     let items = listed.items;
     items[0]
-}
-
-fn converged(ending: Ending) -> bool
-    ensures { λ t. ⌜ t ≡ convergedBy ending ⌝ }
-{
-    match ending {
-        Ending::Converged => true,
-        Ending::Failed => false,
-        Ending::TooMany => false,
-        Ending::TooShort => false,
-    }
 }
 
 // The fit t of group g taken over.

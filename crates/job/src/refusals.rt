@@ -6,12 +6,7 @@ ghost use Rattle.sketch.specs.Check.{overBound};
 use sketch::Build;
 use sketch::Checked;
 use sketch::Ending;
-
-fn counts_over(b: Build) -> bool
-    ensures { λ r. ⌜ r ≡ overBound b ⌝ }
-{
-    (b.point_count > 40) | (b.line_count > 40) | (b.equation_count > 40) | (b.measure_count > 20)
-}
+use sketch::counts_over;
 
 // Whether the output or an area is too short.
 fn no_room(b: Build, out: usize, p: usize, q: usize, r: usize) -> bool

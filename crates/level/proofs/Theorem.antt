@@ -11,6 +11,7 @@ use borrow.Author.Tests.{ltb-true, not-false}
 use lib.Dec.{T, eqb}
 use lib.Ieee.{Float, nan}
 use lib.ListN.{length, getD, length-map}
+use Rattle.loops.specs.Picks.{both}
 use Rattle.loops.specs.Turns.{turns, upTo, every}
 use Rattle.sketch.proofs.Within.{within}
 use Rattle.sketch.specs.Check.{checkOf}
@@ -28,10 +29,6 @@ use Rattle.level.specs.Runs.{Tied, Levelled}
 use Rattle.level.proofs.Forest.{fixedAt}
 use Rattle.level.proofs.Roots.{runRoot, run-has, run-root}
 use Rattle.level.proofs.Takes.{sweep-sized, sweep-taken, sweep-kept, sweep-other}
-
-both : (a b : Bool) → a && b ≡ true → (a ≡ true) × (b ≡ true)
-both true b h = (refl, h)
-both false b h = absurd (subst T (sym h) tt)
 
 -- what holds of every element holds of one
 every-of : {A : Type 0} (p : A → Bool) (l : List A) (x : A) → every p l ≡ true → List·Memᴰ x l → p x ≡ true

@@ -4,24 +4,17 @@ use Prim.Native.Nat.{ℕ}
 use mathlib.Core.List.{[], _∷_}
 use mathlib.Core.Path.{_≡_, refl}
 use lib.Ieee.{Float, binary64, ofBits}
-use Rattle.floats.specs.Ops.{zero⁺, one}
+use Rattle.floats.specs.Ops.{one}
 use Rattle.loops.specs.Turns.{turns, upTo, whiles, whileTo, fold}
-use Rattle.plane.specs.declared.Vec2.{Vec2}
+use Rattle.sketch.specs.Blank.{origin, pointIn, sample}
 use Rattle.sketch.specs.declared.Active.{Active}
 use Rattle.sketch.specs.declared.Build.{Build}
 use Rattle.sketch.specs.declared.Equation.{Equation}
-use Rattle.sketch.specs.declared.Point.{Point}
 use Rattle.sketch.specs.declared.State.{State}
 use Rattle.sketch.specs.declared.State.the-variants.{Free, Kept}
 use Rattle.level.specs.Fixed.{fixedOf}
 use Rattle.level.specs.Level.{joinEquation, joined, levelPoint, levelPoints, levelAxis, levelOf}
 use Rattle.level.specs.Parents.{halved, findOf, aWins, joinTo, selfAt}
-
-abbrev origin : Vec2
-origin = record { x = zero⁺; y = zero⁺ }
-
-abbrev point : State → Point
-point s = record { start = origin; state = s }
 
 -- y is axis 1
 abbrev levelY : ℕ → ℕ → Active
@@ -29,18 +22,7 @@ levelY a b = record { equation = Equation.Level (record { 0 = a }) (record { 0 =
 
 -- the points 0, 1 and 2 in these states
 abbrev three : State → State → State → Build
-three s t u = record {
-  centre = origin;
-  size = one;
-  points = point s ∷ point t ∷ point u ∷ [];
-  «point_count» = 3;
-  lines = [];
-  «line_count» = 0;
-  equations = levelY 0 1 ∷ levelY 1 2 ∷ [];
-  «equation_count» = 2;
-  measures = [];
-  «measure_count» = 0;
-}
+three s t u = sample origin one (pointIn s ∷ pointIn t ∷ pointIn u ∷ []) [] (levelY 0 1 ∷ levelY 1 2 ∷ []) []
 
 abbrev 3·0 : Float
 3·0 = ofBits binary64 0x4008_0000_0000_0000

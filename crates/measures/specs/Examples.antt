@@ -8,6 +8,7 @@ use Rattle.floats.specs.Ops.{one, one⁻, two}
 use Rattle.loops.specs.Turns.{turns, upTo}
 use Rattle.rows.specs.Kinds.{rowsOfEquation, axisDistanceOf}
 use Rattle.rows.specs.Located.{atOf}
+use Rattle.sketch.specs.Blank.{blankPoint, sample}
 use Rattle.sketch.specs.declared.Build.{Build}
 use Rattle.sketch.specs.declared.Measure.{Measure}
 use Rattle.sketch.specs.declared.Measured.{Measured}
@@ -18,18 +19,7 @@ abbrev along : ℕ → Float → Measured
 along axis side = record { measure = Measure.AxisDistance (record { 0 = 0 }) (record { 0 = 1 }) axis side }
 
 abbrev build : Build
-build = record {
-  centre = record { x = one; y = one };
-  size = two;
-  points = [];
-  «point_count» = 2;
-  lines = [];
-  «line_count» = 0;
-  equations = [];
-  «equation_count» = 0;
-  measures = along 0 one ∷ along 1 one⁻ ∷ [];
-  «measure_count» = 2;
-}
+build = sample (record { x = one; y = one }) two (blankPoint ∷ blankPoint ∷ []) [] [] (along 0 one ∷ along 1 one⁻ ∷ [])
 
 abbrev 3·0 : Float
 3·0 = ofBits binary64 0x4008_0000_0000_0000

@@ -7,12 +7,13 @@ use mathlib.Core.List.{List, [], _++_}
 use lib.Dec.{ltb, eqb}
 use lib.ListN.{take, drop, set, replicate}
 use lib.Ieee.{Float, neg, eq, le}
+use Rattle.floats.specs.Lists.{swapAt}
 use Rattle.floats.specs.Ops.{_⊖_, _⊗_, zero⁺, one, 1e-10}
 use Rattle.floats.specs.Magnitude.{magnitudeOf}
 use Rattle.root.specs.Root.{sqrtOf}
 use Rattle.loops.specs.Turns.{upTo, downTo, whileTo}
 use Rattle.solver.specs.Sums.{norm2Of}
-use Rattle.solver.specs.Steps.{at, swapAt}
+use Rattle.solver.specs.Steps.{at}
 use Rattle.nullspace.specs.Rows.{rowAt}
 use Rattle.nullspace.specs.Reflect.{reflectOf, reflectAt}
 

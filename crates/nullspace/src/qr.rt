@@ -1,16 +1,16 @@
 // The loop over k: the longest column, its reflector, and the columns after it reflected.
 ghost use mathlib.Core.Bool.{cond};
 ghost use mathlib.Core.Path.{_≡_};
-ghost use Prim.Native.Nat.{_+_, _*_, _≤_, _<_, min};
+ghost use Prim.Native.Nat.{_+_, _*_, _≤_, _<_};
 ghost use lib.Dec.{eqb};
 ghost use lib.Ieee.{neg, le};
 ghost use lib.ListN.{length};
 ghost use Rattle.floats.specs.Ops.{zero⁺};
 ghost use Rattle.loops.specs.Turns.{upTo};
-ghost use Rattle.solver.specs.Steps.{swapAt};
 ghost use Rattle.nullspace.specs.Promise.{Measured, Turned, Decomposes};
 ghost use Rattle.nullspace.specs.Steps.{normAt, longerRow, longestOf, ended, swapHead, awayAt, reflectorOf};
 use crate::reflect;
+use loops::smaller;
 
 // A column and its remaining norm.
 struct Column {
@@ -65,21 +65,12 @@ fn is_ended(first: f64, norm: f64) -> bool
     }
 }
 
-fn swap(t: &mut [f64], i: usize, j: usize)
-    requires { ⌜ (i < length (now t)) × (j < length (now t)) ⌝ }
-    ensures { λ _. ⌜ now (t .exit) ≡ swapAt i j (now (t .entry)) ⌝ }
-{
-    let x = t[i];
-    t[i] = t[j];
-    t[j] = x;
-}
-
 fn swap_head(t: &mut [f64], n: usize, p: usize)
     requires { ⌜ p * n + n ≤ length (now t) ⌝ }
     ensures { λ _. ⌜ now (t .exit) ≡ upTo n 0 (swapHead n p) (now (t .entry)) ⌝ }
 {
     for c in 0..n {
-        swap(t, p * n + c, c);
+        floats::swap(t, p * n + c, c);
     }
 }
 
@@ -147,18 +138,12 @@ fn turn(t: &mut [f64], n: usize, m: usize, k: usize, first: f64) -> Step
     }
 }
 
-fn least(a: usize, b: usize) -> usize
-    ensures { λ r. ⌜ r ≡ min a b ⌝ }
-{
-    if a < b { a } else { b }
-}
-
 // Makes reflectors of the columns, as many as the rank, and answers the rank.
 pub(crate) fn decompose(w: &mut [f64], rows: usize, n: usize) -> usize
     requires { ⌜ rows * n ≤ length (now w) ⌝ }
     ensures { λ r. ⌜ Decomposes rows n (now (w .entry)) (now (w .exit)) r ⌝ }
 {
-    let last = least(n, rows);
+    let last = smaller(n, rows);
     let mut first = 0.0;
     for k in 0..last {
         let start = k * n;

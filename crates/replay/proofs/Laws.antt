@@ -7,14 +7,11 @@ use native.Mathlib.Omega.{arith}
 use borrow.Author.Tests.{leb-true, leb-false, le-leb, lt-leb}
 use lib.Dec.{leb}
 use lib.ListN.{length}
-use Rattle.calls.specs.declared.Verdict.{Verdict}
-use Rattle.calls.specs.declared.Verdict.the-variants.{Same, Differs, LeftOut}
+use Rattle.loops.specs.Picks.{both}
 use Rattle.spelling.specs.declared.Cursor.{Cursor}
-use Rattle.replay.specs.Judged.{both, sameBytes, answered, verdictIn}
+use Rattle.replay.specs.Judged.{sameBytes, answered}
 use Rattle.replay.specs.Records.{Within, part, placed, recordAt}
 use Rattle.replay.specs.Counted.{oneMore, countedOf, judgedOf, turnOf}
-use Rattle.replay.specs.declared.judge.Pack.{Pack}
-use Rattle.replay.specs.declared.judge.Pack.the-variants.{Jobs}
 use Rattle.replay.specs.declared.tally.Tally.{Tally}
 use Rattle.replay.specs.declared.records.Record.{Record}
 
@@ -56,36 +53,25 @@ pub found-within : (s : List ℕ) (at : ℕ) (r : Record) → r ≡ recordAt s a
 unfolding recordAt
 found-within s at r e h = rw e (placed-within (length s) _ _ _ (rw e at h))
 
-module _ (t : Tally) (e : ℕ) (v : Verdict) (n : ℕ) where
-  pub counted-same : v ≡ Same → n ≡ oneMore (t .same) → record { at = e; same = n; differ = t .differ; «left_out» = t .«left_out» } ≡ countedOf t e v
+module _ (t : Tally) (e : ℕ) (same : Bool) (n : ℕ) where
+  pub counted-same : same ≡ true → n ≡ oneMore (t .same) → record { at = e; same = n; differ = t .differ } ≡ countedOf t e same
   unfolding countedOf
   counted-same h q = rw (h, q)
 
-  pub counted-differ : v ≡ Differs → n ≡ oneMore (t .differ) → record { at = e; same = t .same; differ = n; «left_out» = t .«left_out» } ≡ countedOf t e v
+  pub counted-differ : same ≡ false → n ≡ oneMore (t .differ) → record { at = e; same = t .same; differ = n } ≡ countedOf t e same
   unfolding countedOf
   counted-differ h q = rw (h, q)
 
-  pub counted-out : v ≡ LeftOut → n ≡ oneMore (t .«left_out») → record { at = e; same = t .same; differ = t .differ; «left_out» = n } ≡ countedOf t e v
-  unfolding countedOf
-  counted-out h q = rw (h, q)
-
-pub judged-record : (of : Pack) (s : List ℕ) (r : Record) (t u : Tally) (v : Verdict) → v ≡ verdictIn of (part s (r .text) (r .reply)) (part s (r .reply) (r .end)) → u ≡ countedOf t (r .end) v
-    → u ≡ judgedOf of s r t
+pub judged-record : (s : List ℕ) (r : Record) (t u : Tally) (same : Bool) → same ≡ sameBytes (answered (part s (r .text) (r .reply))) (part s (r .reply) (r .end))
+    → u ≡ countedOf t (r .end) same → u ≡ judgedOf s r t
 unfolding judgedOf
-judged-record of s r t u v h e = rw h at e
+judged-record s r t u same h e = rw h at e
 
-module _ (of : Pack) (s : List ℕ) (i : ℕ) (t : Tally) (r : Record) (q : r ≡ recordAt s (t .at)) where
-  pub turn-found : (u : Tally) → r .found ≡ true → u ≡ judgedOf of s r t → u ≡ turnOf of s i t
+module _ (s : List ℕ) (i : ℕ) (t : Tally) (r : Record) (q : r ≡ recordAt s (t .at)) where
+  pub turn-found : (u : Tally) → r .found ≡ true → u ≡ judgedOf s r t → u ≡ turnOf s i t
   unfolding turnOf judgedOf
   turn-found u h e = rw (← q, h) e
 
-  pub turn-none : r .found ≡ false → t ≡ turnOf of s i t
+  pub turn-none : r .found ≡ false → t ≡ turnOf s i t
   unfolding turnOf
   turn-none h = rw (← q, h)
-
-module _ (of : Pack) (text recorded : List ℕ) (same : Bool) (o : of ≡ Jobs) (e : same ≡ sameBytes (answered text) recorded) where
-  pub job-same : same ≡ true → Same ≡ verdictIn of text recorded
-  job-same t = rw (o, ← e, t)
-
-  pub job-differs : same ≡ false → Differs ≡ verdictIn of text recorded
-  job-differs t = rw (o, ← e, t)

@@ -7,7 +7,7 @@ use native.Mathlib.Omega.{arith}
 use lib.Ieee.{Float}
 use lib.ListN.{length, take}
 use Rattle.reply.specs.Promise.{written-first}
-use Rattle.reply.specs.Short.{short}
+use Rattle.reply.proofs.Short.{short}
 use Rattle.run.specs.Promise.{Runs, replyBuild, replyBy, replyTo}
 use Rattle.sketch.specs.declared.Build.{Build}
 use Rattle.text.specs.Reader.{readOf}

@@ -8,12 +8,9 @@ use borrow.Author.Tests.{eqb-true, eq-eqb}
 use lib.Dec.{eqb}
 use lib.Ieee.{Float}
 use lib.ListN.{replicate}
-use Rattle.calls.specs.Names.{verdictOf, judgeOf}
-use Rattle.calls.specs.declared.Verdict.{Verdict}
 use Rattle.floats.specs.Ops.{zero⁺}
+use Rattle.loops.specs.Picks.{both}
 use Rattle.run.specs.Promise.{replyTo}
-use Rattle.replay.specs.declared.judge.Pack.{Pack}
-use Rattle.replay.specs.declared.judge.Pack.the-variants.{Jobs, Calls}
 
 -- a work area
 abbrev pub area : List Float
@@ -28,15 +25,6 @@ sameBytes [] [] = true
 sameBytes [] (y ∷ b) = false
 sameBytes (x ∷ a) [] = false
 sameBytes (x ∷ a) (y ∷ b) = eqb x y && sameBytes a b
-
--- a job by its whole reply, a call by the room `calls`
-abbrev pub verdictIn : Pack → List ℕ → List ℕ → Verdict
-verdictIn Jobs text recorded = verdictOf (sameBytes (answered text) recorded)
-verdictIn Calls text recorded = judgeOf text recorded
-
-pub both : (p q : Bool) → p && q ≡ true → (p ≡ true) × (q ≡ true)
-both true q h = (refl, h)
-both false q h = (h, cc)
 
 pub same-sound : (a b : List ℕ) → sameBytes a b ≡ true → a ≡ b
 unfolding sameBytes

@@ -1,16 +1,9 @@
 // One record: whether its reply is the one that the text has.
 ghost use mathlib.Core.Path.{_≡_};
-ghost use Rattle.replay.specs.Judged.{sameBytes, answered, verdictIn};
-use calls::Verdict;
-
-// Which pack a record is from.
-pub enum Pack {
-    Jobs,
-    Calls,
-}
+ghost use Rattle.replay.specs.Judged.{sameBytes, answered};
 
 // Whether `recorded` is the reply to the job `text`, to the last byte.
-fn is_reply(text: &[u8], recorded: &[u8]) -> bool
+pub(crate) fn is_reply(text: &[u8], recorded: &[u8]) -> bool
     ensures { λ r. ⌜ r ≡ sameBytes (answered (now (text .entry))) (now (recorded .entry)) ⌝ }
 {
     // No reply is longer.
@@ -23,20 +16,5 @@ fn is_reply(text: &[u8], recorded: &[u8]) -> bool
         check::same(&reply[..n], recorded)
     } else {
         false
-    }
-}
-
-pub(crate) fn judge(of: Pack, text: &[u8], recorded: &[u8]) -> Verdict
-    ensures { λ r. ⌜ r ≡ verdictIn of (now (text .entry)) (now (recorded .entry)) ⌝ }
-{
-    match of {
-        Pack::Calls => calls::judge(text, recorded),
-        Pack::Jobs => {
-            if is_reply(text, recorded) {
-                Verdict::Same
-            } else {
-                Verdict::Differs
-            }
-        }
     }
 }

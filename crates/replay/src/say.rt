@@ -10,33 +10,23 @@ fn number(n: usize) {
     io::print_decimal(STDOUT_FILENO, n as u64);
 }
 
-pub(crate) fn cannot(name: &[u8], path: &[u8], why: &[u8]) {
-    bytes(name);
-    bytes(b": ");
-    bytes(path);
+pub(crate) fn cannot(why: &[u8]) {
+    bytes(b"jobs.pack ");
     bytes(why);
 }
 
-pub(crate) fn differs(name: &[u8], i: usize) {
-    bytes(name);
-    bytes(b": record ");
+pub(crate) fn differs(i: usize) {
+    bytes(b"job ");
     number(i);
     bytes(b" differs\n");
 }
 
 // The counts, and where the records end before the pack does, those words too: such a pack never reads as one that is the same.
-pub(crate) fn outcome(name: &[u8], t: Tally, len: usize) {
-    bytes(name);
-    bytes(b": ");
+pub(crate) fn outcome(t: Tally, len: usize) {
     number(t.same);
     bytes(b" same, ");
     number(t.differ);
     bytes(b" differ");
-    if 0 < t.left_out {
-        bytes(b", ");
-        number(t.left_out);
-        bytes(b" left out");
-    }
     if t.at < len {
         bytes(b", and no whole record at byte ");
         number(t.at);

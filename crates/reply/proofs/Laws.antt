@@ -1,13 +1,21 @@
 -- What is laid one after another is laid as a whole, over plain values. Assumes nothing.
-use Prim.Native.Nat.{ℕ, zero, suc, _+_, _-_, _/_, _≤_, _<_}
+use Prim.Native.Nat.{ℕ, zero, suc, _+_, _-_, _/_, _%_, _^_, _≤_, _<_}
 use mathlib.Core.List.{List, [], _∷_, _++_}
 use mathlib.Core.Path.{_≡_, refl, sym, _∙_}
+use native.Mathlib.Nat.{mod-eq-of-lt}
 use native.Mathlib.Numerals.{add-one}
 use native.Mathlib.Omega.{arith}
 use Rattle.loops.specs.Turns.{fold}
-use Rattle.reply.specs.Figures.{digitByte, wholeIn, whole-one, whole-more, hexByte, hexIn}
-use Rattle.reply.specs.Laid.{Laid, nextByte, laying, fold-append}
+use Rattle.spelling.proofs.Digits.{decimal-one, decimal-last, decimal-more, hexadecimal-last}
+use Rattle.spelling.specs.Printed.{decimal, hexDigit, hexadecimal}
+use Rattle.reply.specs.Laid.{Laid, nextByte, laying}
 use Rattle.reply.specs.Reply.{rising}
+
+-- a fold over two lists, one after the other
+fold-append : {A S : Type 0} (f : S → A → S) (s : S) (p q : List A) → fold f s (p ++ q) ≡ fold f (fold f s p) q
+unfolding fold
+fold-append f s [] q = refl
+fold-append f s (x ∷ p) q = fold-append f (f s x) p q
 
 laying-one : (b : ℕ) (s : Laid) → laying (b ∷ []) s ≡ nextByte s b
 unfolding fold
@@ -22,35 +30,25 @@ module _ (s t u : Laid) where
 
 -- ---- digits
 
-pub no-digit : (s : Laid) (k n : ℕ) → k ≡ 0 → s ≡ laying (wholeIn k n) s
-unfolding wholeIn fold
-no-digit s k n e = rw e
+pub one-digit : (s u : Laid) (n b : ℕ) → n < 10 → b ≡ 48 + n % 10 → u ≡ nextByte s b → u ≡ laying (decimal 19 n) s
+one-digit s u n b h e f = rw (decimal-one 19 n h, laying-one, ← mod-eq-of-lt h, ← e) f
 
-pub one-digit : (s u : Laid) (n b k : ℕ) → (k ≡ 0 → ⊥) → n < 10 → b ≡ digitByte n → u ≡ nextByte s b → u ≡ laying (wholeIn k n) s
-one-digit s u n b zero z h e f = absurd (z refl)
-one-digit s u n b (suc k) z h e f = rw (whole-one k n h, laying-one, ← e) f
+-- in front of a usize's last digit there are at most nineteen, so that twenty may be allowed there too
+pub more-digits : (s t u : Laid) (n b : ℕ) → 10 ≤ n → n < 2 ^ 64 → t ≡ laying (decimal 19 (n / 10)) s → b ≡ 48 + n % 10 → u ≡ nextByte t b
+    → u ≡ laying (decimal 19 n) s
+more-digits s t u n b h r g e f =
+    rw (decimal-last 18 n h, ← e) (last s t u (decimal 18 (n / 10)) b (rw (decimal-more 18 19 (n / 10) (omega arith) (omega arith)) at g) f)
 
-pub more-digits : (s t u : Laid) (n b k : ℕ) → (k ≡ 0 → ⊥) → 10 ≤ n → t ≡ laying (wholeIn (k - 1) (n / 10)) s → b ≡ digitByte n → u ≡ nextByte t b
-    → u ≡ laying (wholeIn k n) s
-more-digits s t u n b zero z h g e f = absurd (z refl)
-more-digits s t u n b (suc k) z h g e f =
-    let p : suc k - 1 ≡ k = omega arith in
-    rw (whole-more k n h, ← e) (last s t u (wholeIn k (n / 10)) b (rw p at g) f)
-
-pub no-hex : (s : Laid) (k n : ℕ) → k ≡ 0 → s ≡ laying (hexIn k n) s
-unfolding hexIn fold
+pub no-hex : (s : Laid) (k n : ℕ) → k ≡ 0 → s ≡ laying (hexadecimal k n) s
+unfolding hexadecimal fold
 no-hex s k n e = rw e
 
-hex-more : (k n : ℕ) → hexIn (suc k) n ≡ hexIn k (n / 16) ++ hexByte n ∷ []
-unfolding hexIn
-hex-more k n = refl
-
-pub more-hex : (s t u : Laid) (n b k : ℕ) → (k ≡ 0 → ⊥) → t ≡ laying (hexIn (k - 1) (n / 16)) s → b ≡ hexByte n → u ≡ nextByte t b
-    → u ≡ laying (hexIn k n) s
+pub more-hex : (s t u : Laid) (n b k : ℕ) → (k ≡ 0 → ⊥) → t ≡ laying (hexadecimal (k - 1) (n / 16)) s → b ≡ hexDigit (n % 16) → u ≡ nextByte t b
+    → u ≡ laying (hexadecimal k n) s
 more-hex s t u n b zero z g e f = absurd (z refl)
 more-hex s t u n b (suc k) z g e f =
     let p : suc k - 1 ≡ k = omega arith in
-    rw (hex-more k n, ← e) (last s t u (hexIn k (n / 16)) b (rw p at g) f)
+    rw (hexadecimal-last k n, ← e) (last s t u (hexadecimal k (n / 16)) b (rw p at g) f)
 
 -- ---- lines of one sort after another
 

@@ -9,7 +9,9 @@ use Rattle.answer.specs.Endings.{blankGroup, refusedOf, failedOf, fittedOf}
 use Rattle.answer.specs.declared.Answer.{Answer}
 use Rattle.floats.specs.Ops.{zero⁺, half, two}
 use Rattle.sketch.specs.declared.Ending.{Ending}
-use Rattle.reply.specs.Figures.{bytes, wholeIn, wholeText, hexIn, floatText, whole, float}
+use Rattle.spelling.specs.Letters.{ascii}
+use Rattle.spelling.specs.Printed.{decimal, hexDigit, hexadecimal}
+use Rattle.reply.specs.Figures.{newline, whole, float}
 use Rattle.reply.specs.Lines.{statusLine, totalLines, groupLine, failedLine, suspectLine, pointLine, measureLine}
 use Rattle.reply.specs.Reply.{rising, groupLines, outputLines, fittedLines, failedLines, replyOf}
 
@@ -25,8 +27,8 @@ example-out : List Float
 example-out = zero⁺ ∷ zero⁺ ∷ two ∷ zero⁺ ∷ half ∷ two⁻ ∷ two ∷ []
 
 the-example :
-    replyOf example example-out 3 1 ≡ bytes "status=0\ngroups=1\nfreedom=3\nworst=0000000000000000\ng=0,1,0,0\nx=0000000000000000,0000000000000000\nx=4000000000000000,0000000000000000\nx=3fe0000000000000,c000000000000000\nm=4000000000000000\n"
-unfolding two⁻ example example-out replyOf statusLine totalLines groupLine pointLine measureLine rising groupLines outputLines fittedLines wholeIn wholeText hexIn floatText whole float toBits ofBits
+    replyOf example example-out 3 1 ≡ ascii "status=0\ngroups=1\nfreedom=3\nworst=0000000000000000\ng=0,1,0,0\nx=0000000000000000,0000000000000000\nx=4000000000000000,0000000000000000\nx=3fe0000000000000,c000000000000000\nm=4000000000000000\n"
+unfolding two⁻ example example-out replyOf statusLine totalLines groupLine pointLine measureLine rising groupLines outputLines fittedLines decimal hexDigit hexadecimal whole float toBits ofBits
 the-example = refl
 
 -- the group of point 2 does not converge, and equations 1 and 12 are suspects
@@ -35,16 +37,16 @@ failure =
     failedOf (record { lowest = 2; freedom = 0; iterations = 200; tries = 2401 })
     (false ∷ true ∷ false ∷ false ∷ false ∷ false ∷ false ∷ false ∷ false ∷ false ∷ false ∷ false ∷ true ∷ replicate 27 false)
 
-a-failure : (out : List Float) (points measures : ℕ) → replyOf failure out points measures ≡ bytes "status=7\ng=2,200,2401\nc=1\nc=12\n"
-unfolding failure replyOf statusLine failedLine suspectLine rising failedLines wholeIn wholeText whole
+a-failure : (out : List Float) (points measures : ℕ) → replyOf failure out points measures ≡ ascii "status=7\ng=2,200,2401\nc=1\nc=12\n"
+unfolding failure replyOf statusLine failedLine suspectLine rising failedLines decimal whole
 a-failure out points measures = refl
 
 -- the status line alone, whatever stands in the output
-a-refusal : (out : List Float) (points measures : ℕ) → replyOf (refusedOf Ending.TooManyRows) out points measures ≡ bytes "status=6\n"
-unfolding replyOf statusLine wholeIn wholeText whole
+a-refusal : (out : List Float) (points measures : ℕ) → replyOf (refusedOf Ending.TooManyRows) out points measures ≡ ascii "status=6\n"
+unfolding replyOf statusLine decimal whole
 a-refusal out points measures = refl
 
 -- a NaN has one spelling
-a-nan : floatText nan ≡ bytes "7ff8000000000000"
-unfolding floatText hexIn toBits
+a-nan : float nan newline ≡ ascii "7ff8000000000000\n"
+unfolding float hexDigit hexadecimal toBits
 a-nan = refl

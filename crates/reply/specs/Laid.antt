@@ -1,8 +1,7 @@
 -- Bytes one after another in a lent slice. A store past the end of the slice does nothing, so that the length of a reply is known
 -- from laying it where there is no room.
 use mathlib.Core.Bool.{cond}
-use mathlib.Core.List.{List, [], _∷_, _++_}
-use mathlib.Core.Path.{_≡_, refl}
+use mathlib.Core.List.{List}
 use Prim.Native.Nat.{ℕ, _+_}
 use lib.Dec.{ltb}
 use lib.ListN.{set}
@@ -18,9 +17,3 @@ nextByte (laid n s) b = cond (ltb n 8192) (laid (n + 1) (set s n b)) (laid n s)
 
 abbrev pub laying : List ℕ → Laid → Laid
 laying bs s = fold nextByte s bs
-
--- a fold over two lists, one after the other
-pub fold-append : {A S : Type 0} (f : S → A → S) (s : S) (p q : List A) → fold f s (p ++ q) ≡ fold f (fold f s p) q
-unfolding fold
-fold-append f s [] q = refl
-fold-append f s (x ∷ p) q = fold-append f (f s x) p q

@@ -6,8 +6,6 @@ mod parts;
 
 ghost use Rattle.reply.specs.Promise.{Writes};
 use answer::Answer;
-pub use figures::bits;
-pub use figures::hex;
 use parts::whole_reply;
 
 // Writes the reply to the head of `reply` where it has room for it, and nothing otherwise. Answers how long the reply is.

@@ -134,11 +134,3 @@ pub fn sqrt(x: f64) -> f64
     }
     if b == MINUS_ZERO { x } else { 0.0 / 0.0 }
 }
-
-// The same, for programs in other languages.
-#[no_mangle]
-pub extern "C" fn root_sqrt(x: f64) -> f64
-    ensures { λ r. ⌜ r ≡ sqrtOf x ⌝ }
-{
-    sqrt(x)
-}

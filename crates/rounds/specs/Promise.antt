@@ -1,6 +1,6 @@
 -- What a call of `solve` answers and leaves in each lent place, for every input.
 use Prim.Native.Nat.{ℕ, _*_}
-use mathlib.Core.Bool.{Bool, cond, _||_}
+use mathlib.Core.Bool.{Bool, true, false, cond, _||_}
 use mathlib.Core.List.{List, _++_}
 use mathlib.Core.Path.{_≡_}
 use lib.Dec.{ltb}
@@ -28,6 +28,12 @@ saying e i t = record { ending = e; iterations = i; tries = t }
 abbrev pub answeredBy : Outcome → Solved
 answeredBy (converged x i t) = saying Converged i t
 answeredBy (failed i t) = saying Failed i t
+
+abbrev pub convergedBy : Ending → Bool
+convergedBy Converged = true
+convergedBy Failed = false
+convergedBy TooMany = false
+convergedBy TooShort = false
 
 -- only a fit that converged has coordinates
 abbrev pub coordinatesOf : List Float → Outcome → List Float

@@ -5,6 +5,8 @@ mod round;
 mod state;
 mod tries;
 
+ghost use mathlib.Core.Path.{_≡_};
+ghost use Rattle.rounds.specs.Promise.{convergedBy};
 pub use opening::solve;
 
 // Where the fit stands beside its coordinates and residuals: `cost`, `mu`, `polish`, and the rounds and tries begun.
@@ -50,4 +52,15 @@ pub struct Solved {
     pub ending: Ending,
     pub iterations: usize,
     pub tries: usize,
+}
+
+pub fn converged(ending: Ending) -> bool
+    ensures { λ t. ⌜ t ≡ convergedBy ending ⌝ }
+{
+    match ending {
+        Ending::Converged => true,
+        Ending::Failed => false,
+        Ending::TooMany => false,
+        Ending::TooShort => false,
+    }
 }

@@ -4,5 +4,6 @@ pub mod Indices
 pub mod Rows
 pub mod Involved
 pub mod Check
+pub mod Blank
 pub mod Given
 pub mod Cases

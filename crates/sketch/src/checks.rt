@@ -17,7 +17,8 @@ use crate::numbers::measures_bounded;
 use crate::numbers::points_bounded;
 use crate::numbers::vec_bounded;
 
-fn counts_over(b: Build) -> bool
+// 3: a count over its bound.
+pub fn counts_over(b: Build) -> bool
     ensures { λ r. ⌜ r ≡ overBound b ⌝ }
 {
     (b.point_count > 40) | (b.line_count > 40) | (b.equation_count > 40) | (b.measure_count > 20)

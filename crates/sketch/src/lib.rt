@@ -7,6 +7,7 @@ mod numbers;
 mod touches;
 
 pub use checks::check;
+pub use checks::counts_over;
 pub use counts::rows;
 use plane::Vec2;
 pub use touches::involved;

@@ -2,10 +2,11 @@
 use mathlib.Core.List.{[], _∷_}
 use mathlib.Core.Path.{_≡_, refl}
 use lib.Ieee.{Float, binary64, ofBits, toBits, isNan, add, sub, mul, div, lt, eq, le}
+use Rattle.floats.specs.Lists.{swapAt}
 use Rattle.floats.specs.Ops.{zero⁺, zero⁻, one}
 use Rattle.floats.specs.Magnitude.{magnitudeOf, maxOf}
 use Rattle.loops.specs.Turns.{go, turns, upTo, downTo, tries, tryTo, fold, every}
-use Rattle.solver.specs.Steps.{scaleOf, largerRow, pivotOf, swapAt, swapColumn, swapped, lessAt, lessRow, rowOf, belowOf, singular, columnOf, eliminatedOf, addTerm, sumOf, backAt, backOf, allFinite, solutionOf}
+use Rattle.solver.specs.Steps.{scaleOf, largerRow, pivotOf, swapColumn, swapped, lessAt, lessRow, rowOf, belowOf, singular, columnOf, eliminatedOf, addTerm, sumOf, backAt, backOf, allFinite, solutionOf}
 
 abbrev three : Float
 three = ofBits binary64 0x4008_0000_0000_0000

@@ -6,6 +6,7 @@ use lib.Dec.{ltb, eqb}
 use lib.ListN.{getD, set, replicate}
 use lib.Ieee.{Float, nan, eq, le}
 use lib.Ieee.Scale.{finite}
+use Rattle.floats.specs.Lists.{swapAt}
 use Rattle.floats.specs.Ops.{_⊕_, _⊖_, _⊗_, _⊘_, zero⁺, zero⁻, 1e-15, 1e-300}
 use Rattle.floats.specs.Magnitude.{absOf, maxOf, magnitudeOf}
 use Rattle.loops.specs.Turns.{Try, go, stop, after, upTo, downTo, tryTo, fold, every}
@@ -30,10 +31,6 @@ largerRow n col a q p = cond (ltb (magnitudeOf (at a (p * n + col))) (magnitudeO
 
 unfoldable pub pivotOf : ℕ → ℕ → List Float → ℕ
 pivotOf n col a = upTo n (col + 1) (largerRow n col a) col
-
--- `swap`
-unfoldable pub swapAt : ℕ → ℕ → List Float → List Float
-swapAt i j s = set (set s i (at s j)) j (at s i)
 
 unfoldable pub swapColumn : ℕ → ℕ → ℕ → ℕ → List Float → List Float
 swapColumn n p q c a = swapAt (p * n + c) (q * n + c) a

@@ -6,7 +6,7 @@ ghost use lib.Ieee.{isNan};
 ghost use lib.ListN.{length};
 ghost use Rattle.loops.specs.Turns.{tried, upTo};
 ghost use Rattle.solver.specs.Candidate.{Sized};
-ghost use Rattle.solver.specs.Steps.{sys, largerOf, scaleOf, largerRow, pivotOf, swapAt, swapColumn, swapped, columnOf, eliminatedOf};
+ghost use Rattle.solver.specs.Steps.{sys, largerOf, scaleOf, largerRow, pivotOf, swapColumn, swapped, columnOf, eliminatedOf};
 use crate::below;
 
 // The largest magnitude, NaN skipped, at least 1e-300.
@@ -61,21 +61,12 @@ fn larger_row(a: &[f64], n: usize, col: usize, q: usize, p: Candidate) -> Candid
     }
 }
 
-fn swap(s: &mut [f64], i: usize, j: usize)
-    requires { ⌜ (i < length (now s)) × (j < length (now s)) ⌝ }
-    ensures { λ _. ⌜ now (s .exit) ≡ swapAt i j (now (s .entry)) ⌝ }
-{
-    let x = s[i];
-    s[i] = s[j];
-    s[j] = x;
-}
-
 fn swap_rows(a: &mut [f64], n: usize, p: usize, q: usize)
     requires { ⌜ ((p < n) × (q < n)) × (n * n ≤ length (now a)) ⌝ }
     ensures { λ _. ⌜ now (a .exit) ≡ upTo n 0 (swapColumn n p q) (now (a .entry)) ⌝ }
 {
     for c in 0..n {
-        swap(a, p * n + c, q * n + c);
+        floats::swap(a, p * n + c, q * n + c);
     }
 }
 
@@ -88,7 +79,7 @@ fn swap_in(a: &mut [f64], b: &mut [f64], n: usize, col: usize, piv: usize)
         return;
     }
     swap_rows(a, n, piv, col);
-    swap(b, piv, col);
+    floats::swap(b, piv, col);
 }
 
 // Clears column `col` below its pivot; false where there is no pivot, and then nothing is said of what is left.

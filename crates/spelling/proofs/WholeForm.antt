@@ -13,6 +13,7 @@ use Rattle.spelling.specs.Wholes.{digitOf, firstOf, moreOf, wholeAt}
 use Rattle.spelling.specs.declared.Cursor.{Cursor}
 use Rattle.spelling.specs.declared.WholeRead.{WholeRead}
 use Rattle.spelling.specs.Printed.{decimal, wholeText}
+use Rattle.spelling.proofs.Digits.{decimal-last, decimal-more}
 use Rattle.spelling.proofs.Forms.{Reads, parted}
 use Rattle.spelling.proofs.Steps.{Here, never, byte-here, further-forward, further-backward, further-keeps}
 
@@ -46,20 +47,12 @@ digit-is b = go (ltb b 48) refl (leb b 57) refl
     go false e true f h = omega (arith, ltb-false b 48 e)
     go false e false f h = absurd (omega arith)
 
--- the digits are the same if more are allowed than there are
-decimal-more : (k n : ℕ) → n < 10 ^ suc k → decimal (suc k) n ≡ decimal k n
-unfolding decimal
-decimal-more zero n h = rw (lt-ltb n 10 h)
-decimal-more (suc k) n h = ap (λ l. cond (ltb n 10) ((48 + n) ∷ []) (l ++ ((48 + n % 10) ∷ []))) (decimal-more k (n / 10) (omega arith))
-
 -- one digit more
 decimal-next : (k v d : ℕ) → d < 10 → 1 ≤ v → decimal (suc k) (10 * v + d) ≡ decimal k v ++ ((48 + d) ∷ [])
-unfolding decimal
 decimal-next k v d h p =
-    let over : 10 ≤ 10 * v + d = omega arith in
     let front : (10 * v + d) / 10 ≡ v = omega arith in
     let last : (10 * v + d) % 10 ≡ d = omega arith in
-    rw (le-ltb (10 * v + d) 10 over, front, last)
+    rw (decimal-last k (10 * v + d) (omega arith), front, last)
 
 module _ (s : List ℕ) where
   first-is : (c : Cursor) (d : ℕ) → digitOf (byteAt s c) ≡ d → d < 10 → firstOf s c ≡ record { value = d; next = furtherOf s c }
@@ -151,7 +144,7 @@ module _ (s : List ℕ) where
       same : moreOf s r ≡ r → Past (suc k) t (moreOf s r)
       same e =
           let q = ih (sym (ap (λ n. n .next .ok) e) ∙ p) in
-          subst (Past (suc k) t) (sym e) (q .0, omega (arith, q .1), q .2 ∙ ap (λ l. l ++ q .0) (sym (decimal-more k (r .value) (q .1))), q .3)
+          subst (Past (suc k) t) (sym e) (q .0, omega (arith, q .1), q .2 ∙ ap (λ l. l ++ q .0) (sym (decimal-more k (suc k) (r .value) (omega arith) (q .1))), q .3)
 
       found : (digitOf (byteAt s (r .next)) < 10) × (1 ≤ r .value) × (r .value ≤ 9999) → Past (suc k) t (moreOf s r)
       found g =

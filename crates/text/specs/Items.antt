@@ -2,34 +2,15 @@
 use mathlib.Core.List.{List}
 use Prim.Native.Nat.{ℕ}
 use lib.ListN.{replicate, set}
-use Rattle.floats.specs.Ops.{zero⁺}
 use Rattle.loops.specs.Turns.{upTo}
-use Rattle.phrases.specs.Fields.{pointNo, lineNo}
-use Rattle.sketch.specs.declared.Active.{Active}
-use Rattle.sketch.specs.declared.Equation.{Equation}
-use Rattle.sketch.specs.declared.Line.{Line}
-use Rattle.sketch.specs.declared.Measure.{Measure}
-use Rattle.sketch.specs.declared.Measured.{Measured}
-use Rattle.sketch.specs.declared.Point.{Point}
-use Rattle.sketch.specs.declared.State.{State}
+use Rattle.sketch.specs.Blank.{blankPoint, blankActive, blankMeasured}
+use Rattle.sketch.specs.Involved.{noLine}
 use Rattle.spelling.specs.declared.Cursor.{Cursor}
 use Rattle.text.specs.Lines.{pointLine, lineLine, equationLine, measureLine}
 use Rattle.text.specs.declared.EquationsRead.{EquationsRead}
 use Rattle.text.specs.declared.LinesRead.{LinesRead}
 use Rattle.text.specs.declared.MeasuresRead.{MeasuresRead}
 use Rattle.text.specs.declared.PointsRead.{PointsRead}
-
-abbrev pub blankPoint : Point
-blankPoint = record { start = record { x = zero⁺; y = zero⁺ }; state = State.Free }
-
-abbrev pub blankLine : Line
-blankLine = record { from = pointNo 0; to = pointNo 0 }
-
-abbrev pub blankActive : Active
-blankActive = record { equation = Equation.Held }
-
-abbrev pub blankMeasured : Measured
-blankMeasured = record { measure = Measure.Length (lineNo 0) }
 
 -- item i from the next line
 unfoldable pub pointInto : List ℕ → ℕ → PointsRead → PointsRead
@@ -49,7 +30,7 @@ abbrev pub pointsAt : List ℕ → Cursor → ℕ → PointsRead
 pointsAt s c k = upTo k 0 (pointInto s) (record { points = replicate 40 blankPoint; next = c })
 
 abbrev pub linesAt : List ℕ → Cursor → ℕ → LinesRead
-linesAt s c k = upTo k 0 (lineInto s) (record { lines = replicate 40 blankLine; next = c })
+linesAt s c k = upTo k 0 (lineInto s) (record { lines = replicate 40 noLine; next = c })
 
 abbrev pub equationsAt : List ℕ → Cursor → ℕ → EquationsRead
 equationsAt s c k = upTo k 0 (equationInto s) (record { equations = replicate 40 blankActive; next = c })

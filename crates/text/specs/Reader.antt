@@ -1,12 +1,13 @@
 -- The whole text, in document 01's order: its length, the form of the four count lines, the counts' bounds, the rest of the form.
 use mathlib.Core.Bool.{Bool, true, false, not, _&&_, _||_}
-use mathlib.Core.List.{List}
+use mathlib.Core.List.{List, []}
 use Prim.Native.Nat.{ℕ}
 use lib.Dec.{ltb, eqb}
-use lib.ListN.{length, replicate}
+use lib.ListN.{length}
 use Rattle.floats.specs.Ops.{zero⁺}
 use Rattle.phrases.specs.Fields.{vecAt}
 use Rattle.phrases.specs.Kinds.{wordAt}
+use Rattle.sketch.specs.Blank.{origin, sample}
 use Rattle.sketch.specs.declared.Build.{Build}
 use Rattle.sketch.specs.declared.Ending.{Ending}
 use Rattle.spelling.specs.Floating.{floatAt}
@@ -15,7 +16,7 @@ use Rattle.spelling.specs.Places.{eatOf}
 use Rattle.spelling.specs.Wholes.{wholeAt}
 use Rattle.spelling.specs.declared.Cursor.{Cursor}
 use Rattle.spelling.specs.declared.WholeRead.{WholeRead}
-use Rattle.text.specs.Items.{blankPoint, blankLine, blankActive, blankMeasured, pointsAt, linesAt, equationsAt, measuresAt}
+use Rattle.text.specs.Items.{pointsAt, linesAt, equationsAt, measuresAt}
 use Rattle.text.specs.declared.BuildRead.{BuildRead}
 use Rattle.text.specs.declared.CountsRead.{CountsRead}
 use Rattle.text.specs.declared.Outcome.{Outcome}
@@ -64,18 +65,7 @@ buildAt s n =
 
 -- a build with nothing in it
 abbrev pub blankBuild : Build
-blankBuild = record {
-  centre = record { x = zero⁺; y = zero⁺ };
-  size = zero⁺;
-  points = replicate 40 blankPoint;
-  «point_count» = 0;
-  lines = replicate 40 blankLine;
-  «line_count» = 0;
-  equations = replicate 40 blankActive;
-  «equation_count» = 0;
-  measures = replicate 20 blankMeasured;
-  «measure_count» = 0;
-}
+blankBuild = sample origin zero⁺ [] [] [] []
 
 abbrev pub refusedWith : Ending → Reading
 refusedWith e = record { outcome = Outcome.Ends e; build = blankBuild }

@@ -53,7 +53,7 @@ abbrev μ-loop : tie.MeasureT-loop
 μ-loop from to₀ n i₀ to i = n - i
 
 loop-holds : tie.Need-loop-holds Inv-loop μ-loop
-loop-holds c = (c .shorter .ensures, search needs, refl, refl)
+loop-holds c = (c .smaller .ensures, search needs, refl, refl)
 
 loop-again : tie.Need-loop-again Inv-loop μ-loop
 loop-again c = (search needs, search needs, search needs, search (into-next (λ (x : Float). x) nan, reach, needs))

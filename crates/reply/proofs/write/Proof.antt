@@ -2,7 +2,7 @@
 use native.Mathlib.Omega.{arith}
 use borrow.Author.Needs.{needs}
 use Rattle.reply.specs.Reply.{replyOf}
-use Rattle.reply.specs.Short.{short}
+use Rattle.reply.proofs.Short.{short}
 use Rattle.reply.proofs.Written.{length-counted, room, no-room}
 use Rattle.reply.proofs.write.Statement.{statement}
 use Rattle.reply.proofs.write.Tie as tie

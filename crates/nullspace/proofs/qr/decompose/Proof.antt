@@ -51,7 +51,7 @@ abbrev μ-loop : tie.MeasureT-loop
 
 loop-holds : tie.Need-loop-holds Inv-loop μ-loop
 unfolding decomposed
-loop-holds c = ((search needs, c .least .ensures), refl, rw (c .least .ensures))
+loop-holds c = ((search needs, c .smaller .ensures), refl, rw (c .smaller .ensures))
 
 mul-start : tie.Need-mul-start Inv-loop μ-loop
 mul-start c = omega (arith, cell-row (c .before .before .before .before .args .rows) (c .before .before .before .before .args .n) (c .before .loop .k) (c .before .before .before .before .args .rows * c .before .before .before .before .args .n) (search needs) (le-refl (c .before .before .before .before .args .rows * c .before .before .before .before .args .n)))

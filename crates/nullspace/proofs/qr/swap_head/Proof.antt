@@ -16,9 +16,6 @@ abbrev μ-loop : tie.MeasureT-loop
 loop-holds : tie.Need-loop-holds Inv-loop μ-loop
 loop-holds c = (search needs, refl, refl)
 
-swap-requires : tie.Need-swap-requires Inv-loop μ-loop
-swap-requires c κs = (search needs, search needs)
-
 loop-again : tie.Need-loop-again Inv-loop μ-loop
 unfolding swapHead
 loop-again c = (search needs, search needs, search (upTo-next, needs))
@@ -35,7 +32,7 @@ swap-head-spec =
     loop-holds
     (λ c. search needs)
     (λ c. search needs)
-    swap-requires
+    (λ c κs. search needs)
     (λ c. search needs)
     (λ c. search needs)
     loop-again

@@ -8,11 +8,11 @@ use Rattle.replay.proofs.tally.count.Statement.{statement}
 use Rattle.replay.proofs.tally.count.Tie as tie
 
 abbrev Inv-loop : tie.InvT-loop
-Inv-loop of name s t₀ i₀ i-end t i =
-    (i ≤ length s) × (i-end ≡ length s) × (upTo (length s) i (turnOf of s) t ≡ upTo (length s) 0 (turnOf of s) t₀)
+Inv-loop s t₀ i₀ i-end t i =
+    (i ≤ length s) × (i-end ≡ length s) × (upTo (length s) i (turnOf s) t ≡ upTo (length s) 0 (turnOf s) t₀)
 
 abbrev μ-loop : tie.MeasureT-loop
-μ-loop of name s t₀ i₀ i-end t i = length s - i
+μ-loop s t₀ i₀ i-end t i = length s - i
 
 loop-holds : tie.Need-loop-holds Inv-loop μ-loop
 loop-holds c = (search needs, search needs, refl)

@@ -1,9 +1,9 @@
--- The measure is how many digits are left. Assumes nothing.
+-- The measure is the number itself. Assumes nothing.
 use Prim.Native.Nat.{ℕ, _<_}
 use borrow.Author.Needs.{needs}
 use borrow.Fn.Kinds.{In}
 use borrow.Fn.PlainCycle.{Measures, is, falls, and}
-use Rattle.reply.proofs.Laws.{no-digit, one-digit, more-digits}
+use Rattle.reply.proofs.Laws.{one-digit, more-digits}
 use Rattle.reply.proofs.figures.digits.Reads as digits
 use Rattle.reply.proofs.figures.digits.Kinds as digits-kinds
 use Rattle.reply.proofs.figures.+digits.Lts-digits as digits-lts
@@ -32,15 +32,13 @@ pub +digits-spec : {M : Type 1} → statement M
 )
     (digits-at t)
     digits.Post
-    (λ c. no-digit _ _ _ (c .if1 .taken))
     (λ c κs. tt)
     (λ c κs. tt)
     (λ c. search needs)
     (λ c.
     let p = c .before .before in
     let e = p .before .before .before in
-    one-digit _ _ _ _ _ (e .before .if1 .left) (e .if2 .taken) (p .before .digit .ensures) (p .put .ensures))
-    (λ c. search needs)
+    one-digit _ _ _ _ (e .if1 .taken) (p .before .digit .ensures) (p .put .ensures))
     (λ c κs. search needs)
     (λ c κs. tt)
     (λ c κs. tt)
@@ -49,4 +47,4 @@ pub +digits-spec : {M : Type 1} → statement M
     let p = c .before .before in
     let d = p .before .before .before .before .before in
     let e = d .before .before in
-    more-digits _ _ _ _ _ _ (e .before .if1 .left) (e .if2 .left) (d .digits .ensures) (p .before .digit2 .ensures) (p .put2 .ensures))
+    more-digits _ _ _ _ _ (e .if1 .left) (search needs) (d .digits .ensures) (p .before .digit2 .ensures) (p .put2 .ensures))

@@ -1,12 +1,12 @@
 -- Assumes nothing.
 use borrow.Author.Needs.{needs}
-use Rattle.reply.specs.Figures.{floatText, float}
+use Rattle.reply.specs.Figures.{float}
 use Rattle.reply.proofs.Laws.{last}
 use Rattle.reply.proofs.figures.put_float.Statement.{statement}
 use Rattle.reply.proofs.figures.put_float.Tie as tie
 
 returns : tie.Need-returns
-unfolding float floatText
+unfolding float
 returns c =
     let p = c .before .before in
     let h = p .before .before .before .before in

@@ -29,9 +29,6 @@ mul-swap-2 c = search (cells, needs)
 add-swap-2 : tie.Need-add-swap-2 Inv-loop μ-loop
 add-swap-2 c = search (cells, needs)
 
-swap-requires : tie.Need-swap-requires Inv-loop μ-loop
-swap-requires c κs = (search (cells, needs), search (cells, needs))
-
 loop-again : tie.Need-loop-again Inv-loop μ-loop
 unfolding swapColumn
 loop-again c = (search needs, search needs, search (upTo-next, needs))
@@ -50,7 +47,7 @@ swap-rows-spec =
     add-swap
     mul-swap-2
     add-swap-2
-    swap-requires
+    (λ c κs. search needs)
     (λ c. search needs)
     (λ c. search needs)
     loop-again

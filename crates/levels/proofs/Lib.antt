@@ -1,3 +1,0 @@
-pub mod Levelled
-pub mod Shown
-pub mod Traced

@@ -1,5 +1,0 @@
-pub mod Grouped
-pub mod Read
-pub mod Sloped
-pub mod Started
-pub mod Swept

@@ -1,4 +1,0 @@
-pub mod Reading
-pub mod Listing
-pub mod Gradients
-pub mod Sweeping

@@ -1,0 +1,3 @@
+pub mod Code
+pub mod Sweeps
+pub mod Jobs
