@@ -18,7 +18,8 @@ fn suspect(b: Build, f: Frame, k: usize, p: &mut [f64], q: &mut [f64], r: &mut [
     let own = f.equations;
     let t = fit(b, f, members::without(own, k), p, q, r);
     let s = t.solved;
-    converged(s.ending)
+    let ending = s.ending;
+    converged(ending)
 }
 
 // No equation has a number past the marks.

@@ -7,11 +7,11 @@
 --     every p l             whether p holds of each element
 -- Each has a law for a turn (-next), for an early way out (-stop) and for the end (-done). R is what the whole loop gives, so an
 -- invariant says "what is left gives R", which holds at the start by `refl`. `upTo-part` says a loop on a part as a loop on the whole,
--- and `upTo-same` that loops whose turns do the same do the same.
+-- `upTo-same` that loops whose turns do the same do the same, and `fold-append` that two lists are gone over one after the other.
 -- Assumes nothing.
 use Prim.Native.Nat.{ℕ, zero, suc, _+_, _-_, _≤_, _<_}
 use mathlib.Core.Bool.{Bool, true, false, cond}
-use mathlib.Core.List.{List, [], _∷_}
+use mathlib.Core.List.{List, [], _∷_, _++_}
 use mathlib.Core.Path.{_≡_, refl, sym, _∙_}
 use native.Mathlib.Nat.{add-assoc}
 use native.Mathlib.Numerals.{add-one}
@@ -184,6 +184,11 @@ module _ {A S : Type 0} where
   pub fold-done : (f : S → A → S) (l : List A) (i : ℕ) (s R : S) → length l ≤ i → fold f s (drop i l) ≡ R → s ≡ R
   unfolding fold
   fold-done f l i s R h r = rw (drop-of-length-le l h) at r
+
+  pub fold-append : (f : S → A → S) (s : S) (l m : List A) → fold f s (l ++ m) ≡ fold f (fold f s l) m
+  unfolding fold
+  fold-append f s [] m = refl
+  fold-append f s (x ∷ l) m = fold-append f (f s x) l m
 
 module _ {A : Type 0} where
   unfoldable pub every : (A → Bool) → List A → Bool

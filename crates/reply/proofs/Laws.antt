@@ -5,17 +5,11 @@ use mathlib.Core.Path.{_≡_, refl, sym, _∙_}
 use native.Mathlib.Nat.{mod-eq-of-lt}
 use native.Mathlib.Numerals.{add-one}
 use native.Mathlib.Omega.{arith}
-use Rattle.loops.specs.Turns.{fold}
+use Rattle.loops.specs.Turns.{fold, fold-append}
 use Rattle.spelling.proofs.Digits.{decimal-one, decimal-last, decimal-more, hexadecimal-last}
 use Rattle.spelling.specs.Printed.{decimal, hexDigit, hexadecimal}
 use Rattle.reply.specs.Laid.{Laid, nextByte, laying}
 use Rattle.reply.specs.Reply.{rising}
-
--- a fold over two lists, one after the other
-fold-append : {A S : Type 0} (f : S → A → S) (s : S) (p q : List A) → fold f s (p ++ q) ≡ fold f (fold f s p) q
-unfolding fold
-fold-append f s [] q = refl
-fold-append f s (x ∷ p) q = fold-append f (f s x) p q
 
 laying-one : (b : ℕ) (s : Laid) → laying (b ∷ []) s ≡ nextByte s b
 unfolding fold

@@ -13,7 +13,8 @@ use text::Outcome;
 fn lay(table: [usize; 40], to: &mut [usize])
     ensures { λ _. ⌜ now (to .exit) ≡ laidOver table (now (to .entry)) ⌝ }
 {
-    for i in 0..smaller(40, to.len()) {
+    let n = smaller(40, to.len());
+    for i in 0..n {
         to[i] = table[i];
     }
 }
@@ -57,7 +58,8 @@ fn solved(b: Build, out: &mut [f64], p: &mut [f64], q: &mut [f64], r: &mut [f64]
     ensures { λ n. ⌜ SolvesBy (now (out .entry)) (now (p .entry)) (now (q .entry)) (now (r .entry)) Read b (now (out .exit)) (now (p .exit)) (now (q .exit)) (now (r .exit)) n ⌝ }
 {
     let a = job::solve(b, out, p, q, r);
-    answer::number(a.ending)
+    let ending = a.ending;
+    answer::number(ending)
 }
 
 // `job::solve`, the library call itself, on a lent output: the number that it ends in. A text that is not read has its own.

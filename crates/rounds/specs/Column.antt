@@ -12,7 +12,7 @@ use lib.ListN.{length, getD, set, drop, replicate, length-append, length-drop, l
 use lib.Seq.{set-append-left, set-at, drop-drop}
 use Rattle.floats.specs.Ops.{_⊕_, zero⁺}
 use Rattle.loops.specs.Parts.{get-past, set-past}
-use Rattle.loops.specs.Turns.{fold, upTo, turns}
+use Rattle.loops.specs.Turns.{fold, fold-append, upTo, turns}
 use Rattle.plane.specs.declared.Vec2.{Vec2}
 use Rattle.rows.specs.Column.{Laid, laid, nextValue, rowsAt, valuesNext, columnOf, equationAt}
 use Rattle.slopes.specs.Dense.{nextRow, freeOf, addAt, addEntry, clearAt, clearedOf, rowInto, rowsNext, jacobianOf}
@@ -52,17 +52,11 @@ use Rattle.rounds.specs.Problem.{moreRows, rowCount, denseRow, rowsFor, 
 
 -- ---- a fold over parts is a fold over the whole
 
-module _ {A S : Type 0} (f : S → A → S) where
-  fold-append : (l m : List A) (s : S) → fold f s (l ++ m) ≡ fold f (fold f s l) m
-  unfolding fold
-  fold-append [] m s = refl
-  fold-append (x ∷ l) m s = fold-append l m (f s x)
-
-  module _ {K : Type 0} (g : K → List A) (h : S → K → S) (turn : (s : S) (k : K) → h s k ≡ fold f s (g k)) where
-    fold-parts : (ks : List K) (s : S) → fold h s ks ≡ fold f s (flatMap g ks)
-    unfolding fold flatMap
-    fold-parts [] s = refl
-    fold-parts (k ∷ ks) s = fold-parts ks (h s k) ∙ ap (λ t. fold f t (flatMap g ks)) (turn s k) ∙ sym (fold-append (g k) (flatMap g ks) s)
+module _ {A S K : Type 0} (f : S → A → S) (g : K → List A) (h : S → K → S) (turn : (s : S) (k : K) → h s k ≡ fold f s (g k)) where
+  fold-parts : (ks : List K) (s : S) → fold h s ks ≡ fold f s (flatMap g ks)
+  unfolding fold flatMap
+  fold-parts [] s = refl
+  fold-parts (k ∷ ks) s = fold-parts ks (h s k) ∙ ap (λ t. fold f t (flatMap g ks)) (turn s k) ∙ sym (fold-append f s (g k) (flatMap g ks))
 
 -- ---- how many rows there are
 

@@ -1,6 +1,6 @@
--- Which patterns are a NaN's, and what the tests of a step give. Assumes nothing.
+-- Which patterns are a NaN's. Assumes nothing.
 use mathlib.Core.Path.{_≡_, refl, sym, subst, subst⁻¹, _∙_}
-use mathlib.Core.Bool.{Bool, true, false, not, _&&_}
+use mathlib.Core.Bool.{Bool, true, not}
 use Prim.Native.Nat.{ℕ, _%_, _≤_, _<_}
 use borrow.Author.Tests.{lt-ltb}
 use lib.Dec.{T}
@@ -19,11 +19,3 @@ only-nan (fin s m e) h = absurd (subst T (sym h) tt)
 
 pub is-nan : (b : ℕ) → 0x7ff0_0000_0000_0000 < b % 0x8000_0000_0000_0000 → nan ≡ ofBits binary64 b
 is-nan b h = only-nan (ofBits binary64 b) (sym (nanBits-is binary64 b) ∙ nanBits-above binary64 b ∙ lt-ltb _ _ h)
-
-pub first-of : (p q : Bool) → p && q ≡ true → p ≡ true
-first-of true q h = refl
-first-of false q h = h
-
-pub second-of : (p q : Bool) → p && q ≡ true → q ≡ true
-second-of true q h = h
-second-of false q h = absurd (subst T (sym h) tt)

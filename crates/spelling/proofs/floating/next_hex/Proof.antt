@@ -10,15 +10,15 @@ use Rattle.spelling.specs.Floating.{hexOf, nextHex}
 use Rattle.spelling.specs.Places.{byteAt, furtherOf, spoiltOf}
 use Rattle.spelling.specs.declared.BitsRead.{BitsRead}
 use Rattle.spelling.specs.declared.Cursor.{Cursor}
-use Rattle.spelling.proofs.Bits.{first-of, second-of}
+use Rattle.loops.specs.Picks.{both}
 use borrow.Author.Needs.{needs}
 use Rattle.spelling.proofs.floating.next_hex.Statement.{statement}
 use Rattle.spelling.proofs.floating.next_hex.Tie as tie
 
 room : (d b : ℕ) → ltb d 16 && ltb b 0x1000_0000_0000_0000 ≡ true → (16 * b < 2 ^ 64) × (16 * b + d < 2 ^ 64)
 room d b t =
-    let h : d < 16 = ltb-true d 16 (first-of (ltb d 16) (ltb b 0x1000_0000_0000_0000) t) in
-    let k : b < 0x1000_0000_0000_0000 = ltb-true b 0x1000_0000_0000_0000 (second-of (ltb d 16) (ltb b 0x1000_0000_0000_0000) t) in
+    let h : d < 16 = ltb-true d 16 (both (ltb d 16) (ltb b 0x1000_0000_0000_0000) t .0) in
+    let k : b < 0x1000_0000_0000_0000 = ltb-true b 0x1000_0000_0000_0000 (both (ltb d 16) (ltb b 0x1000_0000_0000_0000) t .1) in
     (omega arith, omega arith)
 
 module _ (s : List ℕ) (f : BitsRead) (b d : ℕ) (n : Cursor) (eb : b ≡ byteAt s (f .next)) (ed : d ≡ hexOf b) where

@@ -10,15 +10,15 @@ use Rattle.spelling.specs.Places.{byteAt, furtherOf}
 use Rattle.spelling.specs.Wholes.{digitOf, moreOf}
 use Rattle.spelling.specs.declared.Cursor.{Cursor}
 use Rattle.spelling.specs.declared.WholeRead.{WholeRead}
-use Rattle.spelling.proofs.Bits.{first-of, second-of}
+use Rattle.loops.specs.Picks.{both}
 use borrow.Author.Needs.{needs}
 use Rattle.spelling.proofs.wholes.more_digits.Statement.{statement}
 use Rattle.spelling.proofs.wholes.more_digits.Tie as tie
 
 room : (d v : ℕ) (p : Bool) → ltb d 10 && p && leb v 9999 ≡ true → (10 * v < 2 ^ 64) × (10 * v + d < 2 ^ 64)
 room d v p t =
-    let h : d < 10 = ltb-true d 10 (first-of (ltb d 10) p (first-of (ltb d 10 && p) (leb v 9999) t)) in
-    let k : v ≤ 9999 = leb-true v 9999 (second-of (ltb d 10 && p) (leb v 9999) t) in
+    let h : d < 10 = ltb-true d 10 (both (ltb d 10) p (both (ltb d 10 && p) (leb v 9999) t .0) .0) in
+    let k : v ≤ 9999 = leb-true v 9999 (both (ltb d 10 && p) (leb v 9999) t .1) in
     (omega arith, omega arith)
 
 module _ (s : List ℕ) (n : WholeRead) (b d : ℕ) where
