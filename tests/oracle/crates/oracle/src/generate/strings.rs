@@ -28,7 +28,9 @@ fn lines(rng: &mut Rng, text: &[u8]) -> Vec<u8> {
     let from: Vec<&[u8]> = text.split_inclusive(|&b| b == b'\n').collect();
     let mut count = || rng.pick(&[0, 1, 2, 3, 40, 41]);
     let mut text = format!("points={}\nlines={}\nequations={}\nmeasures={}\n", count(), count(), count(), count()).into_bytes();
-    (0..rng.below(12)).for_each(|_| text.extend(rng.pick(&from)));
+    // A damaged job may have no lines at all.
+    let more = if from.is_empty() { 0 } else { rng.below(12) };
+    (0..more).for_each(|_| text.extend(rng.pick(&from)));
     text
 }
 
