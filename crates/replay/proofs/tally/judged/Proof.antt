@@ -4,7 +4,7 @@ use Rattle.replay.proofs.tally.judged.Statement.{statement}
 use Rattle.replay.proofs.tally.judged.Tie as tie
 
 returns : tie.Need-returns
-returns c = let a = c .before .before .before .before .before .before .before .args in judged-record (a .s .now) (a .r) _ _ _ (c .before .before .is-reply .ensures) (c .counted .ensures)
+returns c = let a = c .before .before .before .before .before .before .args in judged-record (a .s .now) (a .r) _ _ _ (c .before .before .is-reply .ensures) (c .counted .ensures)
 
 pub judged-spec : {M : Type 1} → statement M
 judged-spec =
