@@ -2,6 +2,7 @@
 pub mod harness {
     use super::*;
     use crate::counters;
+    use crate::solver::harness::{Row, all, dense_rows};
     use job::{Build, Equation, Field, Kind, State};
 
     /// A build in the Rust's own terms, cut into its groups.
@@ -22,7 +23,7 @@ pub mod harness {
     }
 
     impl Rig {
-        /// The build must have passed every check.
+        /// Every point and line that the build refers to must be there.
         pub fn new(build: &Build) -> Self {
             let equations = filled(build);
             let groups = equations.groups();
@@ -82,7 +83,7 @@ pub mod harness {
             r
         }
 
-        fn gradients(&self, group: usize, x: &[f64]) -> Vec<Vec<(usize, f64)>> {
+        fn gradients(&self, group: usize, x: &[f64]) -> Vec<Row> {
             let g = &self.groups[group];
             let (mut r, mut rows) = (Vec::new(), Vec::new());
             self.equations.residuals(g, &g.constraints, x, &mut r, Some(&mut rows));
@@ -91,7 +92,13 @@ pub mod harness {
 
         /// The gradients at `x` as a dense matrix over all the group's coordinates.
         pub fn jacobian(&self, group: usize, x: &[f64]) -> Vec<f64> {
-            solver::harness::dense_rows(&self.gradients(group, x), x.len())
+            dense_rows(&self.gradients(group, x), &all(x.len()), x.len())
+        }
+
+        /// Sweeps over equations chosen from the build, as if they were a group on these points.
+        pub fn sweep(&self, points: &[usize], chosen: &[usize], free: &[usize]) -> Sweep<'_> {
+            let group = Group { points: points.to_vec(), constraints: chosen.to_vec() };
+            Sweep { equations: &self.equations, group, free: free.to_vec(), rows: Vec::new() }
         }
 
         /// Where the group's fit starts.
@@ -119,41 +126,51 @@ pub mod harness {
                 *point = at.unwrap_or(*point);
             }
             eq.level(&mut points);
-            let by_name = eq.measures(&points);
-            let measures = eq.measure_names.iter().map(|n| by_name[n]).collect();
-            (points.iter().map(|p| [p.x, p.y]).collect(), measures)
+            (points.iter().map(|p| [p.x, p.y]).collect(), self.measures_at(&points))
+        }
+
+        /// Levels points that are given as two numbers each.
+        pub fn level(&self, points: &mut [f64]) {
+            let mut at = pairs(points);
+            self.equations.level(&mut at);
+            for (point, at) in points.chunks_mut(2).zip(at) {
+                point.copy_from_slice(&[at.x, at.y]);
+            }
+        }
+
+        /// The measures at points that are given as two numbers each.
+        pub fn measures(&self, points: &[f64]) -> Vec<f64> {
+            self.measures_at(&pairs(points))
+        }
+
+        fn measures_at(&self, points: &[Vec2]) -> Vec<f64> {
+            let by_name = self.equations.measures(points);
+            self.equations.measure_names.iter().map(|n| by_name[n]).collect()
         }
     }
 
-    /// Levels `points` by the Level equations `(a, b, axis)`.
-    pub fn level(points: &mut [[f64; 2]], fixed: &[bool], equations: &[(usize, usize, usize)]) {
-        let mut eq = bare(points.len());
-        eq.fixed = fixed.to_vec();
-        eq.eqs = equations.iter().map(|&(a, b, axis)| Eq::Level(a, b, axis)).collect();
-        eq.active = eq.eqs.len();
-        let mut levelled: Vec<Vec2> = points.iter().map(|p| Vec2::new(p[0], p[1])).collect();
-        eq.level(&mut levelled);
-        for (point, at) in points.iter_mut().zip(levelled) {
-            *point = [at.x, at.y];
+    /// A sweep keeps its rows, so that a second one finds their room.
+    pub struct Sweep<'a> {
+        equations: &'a Equations,
+        group: Group,
+        free: Vec<usize>,
+        rows: Vec<Row>,
+    }
+
+    impl Sweep<'_> {
+        pub fn residuals(&self, x: &[f64], r: &mut Vec<f64>) {
+            self.equations.residuals(&self.group, &self.group.constraints, x, r, None);
+        }
+
+        /// The residuals, and the gradients as a dense matrix over the free coordinates.
+        pub fn jacobian(&mut self, x: &[f64], r: &mut Vec<f64>) -> Vec<f64> {
+            self.equations.residuals(&self.group, &self.group.constraints, x, r, Some(&mut self.rows));
+            dense_rows(&self.rows, &self.free, x.len())
         }
     }
 
-    /// `count` free points at the origin and nothing else.
-    fn bare(count: usize) -> Equations {
-        Equations {
-            names: (0..count).map(|p| p.to_string()).collect(),
-            start: vec![Vec2::new(0.0, 0.0); count],
-            lines: Vec::new(),
-            eqs: Vec::new(),
-            active: 0,
-            measure_names: Vec::new(),
-            described: Vec::new(),
-            fixed: vec![false; count],
-            fixed_at: vec![None; count],
-            unconstrained: Vec::new(),
-            centre: [0.0; 2],
-            size: 1.0,
-        }
+    fn pairs(points: &[f64]) -> Vec<Vec2> {
+        points.chunks(2).map(|p| Vec2::new(p[0], p[1])).collect()
     }
 
     /// A placed point always has its place, also where that equals its start: so its own bits
@@ -163,17 +180,20 @@ pub mod harness {
             State::Placed(at) => Some(Vec2::new(at[0], at[1])),
             State::Free | State::Kept => None,
         };
-        let mut eq = bare(build.points.len());
-        eq.start = build.points.iter().map(|p| Vec2::new(p.start[0], p.start[1])).collect();
-        eq.lines = build.lines.iter().map(|l| (l[0], l[1])).collect();
-        eq.eqs = build.equations.iter().chain(&build.measures).map(equation).collect();
-        eq.active = build.equations.len();
-        eq.measure_names = (0..build.measures.len()).map(|m| m.to_string()).collect();
-        eq.described = (0..eq.active).map(|k| k.to_string()).collect();
-        eq.fixed = build.points.iter().map(|p| p.state != State::Free).collect();
-        eq.fixed_at = build.points.iter().map(|p| place(&p.state)).collect();
-        eq.centre = build.centre;
-        eq.size = build.size;
+        let mut eq = Equations {
+            names: (0..build.points.len()).map(|p| p.to_string()).collect(),
+            start: build.points.iter().map(|p| Vec2::new(p.start[0], p.start[1])).collect(),
+            lines: build.lines.iter().map(|l| (l[0], l[1])).collect(),
+            eqs: build.equations.iter().chain(&build.measures).map(equation).collect(),
+            active: build.equations.len(),
+            measure_names: (0..build.measures.len()).map(|m| m.to_string()).collect(),
+            described: (0..build.equations.len()).map(|k| k.to_string()).collect(),
+            fixed: build.points.iter().map(|p| p.state != State::Free).collect(),
+            fixed_at: build.points.iter().map(|p| place(&p.state)).collect(),
+            unconstrained: Vec::new(),
+            centre: build.centre,
+            size: build.size,
+        };
         let tied = eq.tied_points();
         eq.unconstrained = (0..tied.len()).filter(|&p| !tied[p] && !eq.fixed[p]).collect();
         eq

@@ -1,5 +1,5 @@
 // Appended by tests/oracle.
-pub use equations::harness::{Rig, Run, level};
+pub use equations::harness::{Rig, Run, Sweep};
 pub use solver::harness as bare;
 
 /// What the second copy of the solver counts; the unmodified one never calls `iteration` or

@@ -1,13 +1,19 @@
 /// Appended by tests/oracle: the private calls on bare matrices, made reachable.
 pub mod harness {
+    /// The rank's threshold, as every fit of the Rust passes it.
+    const RANK: f64 = 1e-10;
+
+    /// A row as the Rust has it: columns with their entries.
+    pub type Row = Vec<(usize, f64)>;
+
     /// The answer of elimination, or none.
-    pub fn eliminate(a: &[f64], b: &[f64], n: usize) -> Option<Vec<f64>> {
-        super::solve_dense(a.to_vec(), b.to_vec(), n)
+    pub fn eliminate(a: Vec<f64>, b: Vec<f64>, n: usize) -> Option<Vec<f64>> {
+        super::solve_dense(a, b, n)
     }
 
-    /// Rank and basis of a dense matrix given row after row, all its columns free.
-    pub fn null_space(matrix: &[f64], rows: usize, columns: usize, rel: f64) -> (usize, Vec<Vec<f64>>) {
-        super::null_space(&sparse(matrix, rows, columns), &all(columns), rel)
+    /// Rank and basis of a matrix, all its columns free.
+    pub fn null_space(rows: &[Row], columns: usize) -> (usize, Vec<Vec<f64>>) {
+        super::null_space(rows, &all(columns), RANK)
     }
 
     /// Whether a dense matrix has a NaN once its rows are scaled to unit length.
@@ -17,7 +23,7 @@ pub mod harness {
 
     /// Whether a row has a NaN, over the free ones of `coordinates` coordinates, once it is
     /// divided by its length (which happens where that is above zero).
-    pub(crate) fn nan_when_scaled(rows: &[Vec<(usize, f64)>], free: &[usize], coordinates: usize) -> bool {
+    pub(crate) fn nan_when_scaled(rows: &[Row], free: &[usize], coordinates: usize) -> bool {
         if free.is_empty() {
             return false;
         }
@@ -28,9 +34,9 @@ pub mod harness {
         })
     }
 
-    /// The rows over all coordinates, repeated entries added.
-    pub(crate) fn dense_rows(rows: &[Vec<(usize, f64)>], coordinates: usize) -> Vec<f64> {
-        super::dense(rows, &super::columns(&all(coordinates), coordinates), coordinates)
+    /// The rows over the free ones of `coordinates` coordinates, repeated entries added.
+    pub(crate) fn dense_rows(rows: &[Row], free: &[usize], coordinates: usize) -> Vec<f64> {
+        super::dense(rows, &super::columns(free, coordinates), free.len())
     }
 
     pub fn max_abs(v: &[f64]) -> f64 {
@@ -41,11 +47,12 @@ pub mod harness {
         super::norm2(v)
     }
 
-    fn all(columns: usize) -> Vec<usize> {
+    pub(crate) fn all(columns: usize) -> Vec<usize> {
         (0..columns).collect()
     }
 
-    fn sparse(matrix: &[f64], rows: usize, columns: usize) -> Vec<Vec<(usize, f64)>> {
+    /// The rows of a dense matrix given row after row.
+    pub fn sparse(matrix: &[f64], rows: usize, columns: usize) -> Vec<Row> {
         (0..rows).map(|i| matrix[i * columns..(i + 1) * columns].iter().copied().enumerate().collect()).collect()
     }
 }

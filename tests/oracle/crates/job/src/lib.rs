@@ -1,13 +1,16 @@
-//! A job: the build it holds, its text, its refusals and its reply. Written from document 01
+//! A job: the build it holds, its text, its refusals and its reply; and the text of a single call. Written from document 01
 //! and the project's readings of it alone, as a second opinion on the project's own reader;
 //! nothing here knows the Rust.
 
+mod call;
 mod check;
 mod kinds;
+pub mod pack;
 mod reader;
 mod reply;
 mod writer;
 
+pub use call::{Call, read_call};
 pub use check::{check, rows};
 pub use kinds::{EQUATIONS, Kind, MEASURES, Slot};
 pub use reader::{read, read_form};

@@ -7,9 +7,9 @@ use std::error::Error;
 use std::io::{BufRead, Write};
 
 use counted::{Rig, Run};
-use job::{Build, EQUATIONS, Kind, Status};
+use job::{Build, EQUATIONS, Kind, Status, pack};
 
-use crate::{calls, generate, pack};
+use crate::{calls, generate};
 
 const FITTED: Status = 0;
 const FAILED: Status = 7;

@@ -1,17 +1,12 @@
 //! The original Rust as the judge: see tests/README.md for what each word does.
 
-mod answer;
-mod calls;
-mod figures;
-mod generate;
-mod pack;
-mod record;
-mod sketches;
-mod time;
-
 use std::error::Error;
 use std::io::{self, BufRead, Read, Write};
 use std::process::ExitCode;
+
+use job::pack;
+use oracle::generate::Made;
+use oracle::{answer, calls, figures, generate, record, sketches, time};
 
 type Outcome = Result<(), Box<dyn Error>>;
 
@@ -35,13 +30,16 @@ fn dispatch(words: &[&str]) -> Outcome {
         ["calls"] => calls(input, output)?,
         ["generate", "jobs", seed, count] => generate(output, generate::job, seed, count)?,
         ["generate", "calls", seed, count] => generate(output, generate::call, seed, count)?,
+        ["generate", "strings", seed, count] => generate(output, generate::string, seed, count)?,
         ["generate", "job", seed, index] => output.write_all(&generate::job(seed.parse()?, index.parse()?).text)?,
         ["generate", "call", seed, index] => output.write_all(&generate::call(seed.parse()?, index.parse()?).text)?,
+        ["damage", seed] => put_all(output, generate::damaged(seed.parse()?, &read_all(input)?))?,
         ["pick", index] => pick(input, output, index.parse()?)?,
         ["figures", "jobs"] => figures::of_jobs(input, output)?,
         ["figures", "calls"] => figures::of_calls(input, output)?,
         ["find", ending, seed, count] => figures::find(output, ending, seed.parse()?, count.parse()?)?,
-        ["record", folder, seed, extra @ ..] => record::sample(output, folder.as_ref(), seed.parse()?, extra)?,
+        ["record", "jobs", file, seed, extra @ ..] => record::jobs(output, file.as_ref(), seed.parse()?, extra)?,
+        ["record", "calls", file, seed] => record::calls(output, file.as_ref(), seed.parse()?)?,
         ["sketches", seed, count] => writeln!(output, "{} sketches answered alike", sketches::agree(seed.parse()?, count.parse()?)?)?,
         ["time", "job", runs] => time::job(output, &read_all(input)?, runs.parse()?)?,
         ["time", "calls", runs] => time::calls(output, runs.parse()?)?,
@@ -102,11 +100,15 @@ fn calls(input: &mut impl BufRead, output: &mut impl Write) -> Outcome {
     Ok(())
 }
 
-/// `count` texts of a seed, each with its class.
-fn generate(output: &mut impl Write, make: impl Fn(u64, u64) -> generate::Made, seed: &str, count: &str) -> Outcome {
+/// `count` texts of a seed.
+fn generate(output: &mut impl Write, make: impl Fn(u64, u64) -> Made, seed: &str, count: &str) -> Outcome {
     let (seed, count): (u64, u64) = (seed.parse()?, count.parse()?);
-    for index in 0..count {
-        let made = make(seed, index);
+    put_all(output, (0..count).map(|index| make(seed, index)))
+}
+
+/// Texts, each with its class.
+fn put_all(output: &mut impl Write, texts: impl IntoIterator<Item = Made>) -> Outcome {
+    for made in texts {
         pack::put_classed(output, made.class, &made.text)?;
     }
     Ok(())

@@ -8,12 +8,12 @@ use std::fs;
 use std::io::Write;
 use std::path::Path;
 
-use job::{Answer, Build, Contact, Equation, Field, Kind, MAX_MAGNITUDE, MIN_SIZE, Radius, State};
+use job::{Answer, Build, Contact, Equation, Field, Kind, MAX_MAGNITUDE, MIN_SIZE, Radius, State, pack};
 
 use crate::answer::{Checked, checked};
+use crate::calls;
 use crate::figures::{Seen, ending, look, sort};
 use crate::generate::{self, Made};
-use crate::{calls, pack};
 
 /// Texts to choose from.
 const JOBS: u64 = 20_000;
@@ -30,17 +30,19 @@ const CALL_EXAMPLES: usize = 4;
 type Traits = BTreeSet<String>;
 
 /// `extra` are files with jobs that no seed finds quickly; they are always taken.
-pub fn sample(output: &mut impl Write, folder: &Path, seed: u64, extra: &[&str]) -> Result<(), Box<dyn Error>> {
-    fs::create_dir_all(folder)?;
+pub fn jobs(output: &mut impl Write, path: &Path, seed: u64, extra: &[&str]) -> Result<(), Box<dyn Error>> {
     let mut jobs = Vec::new();
     for path in extra {
         jobs.push(fs::read(path)?);
     }
     jobs.extend(chosen_jobs(seed));
     let replies = jobs.iter().map(|text| job::reply(&checked(text).answer));
-    write(output, &folder.join("jobs.pack"), jobs.iter().zip(replies))?;
+    write(output, path, jobs.iter().zip(replies))
+}
+
+pub fn calls(output: &mut impl Write, path: &Path, seed: u64) -> Result<(), Box<dyn Error>> {
     let calls = chosen_calls(seed)?;
-    write(output, &folder.join("calls.pack"), calls.iter().map(|(text, reply)| (text, reply.clone())))
+    write(output, path, calls.iter().map(|(text, reply)| (text, reply.clone())))
 }
 
 fn write<'a>(output: &mut impl Write, path: &Path, records: impl Iterator<Item = (&'a Vec<u8>, String)>) -> Result<(), Box<dyn Error>> {

@@ -42,12 +42,12 @@ pub fn job(output: &mut impl Write, text: &[u8], runs: usize) -> io::Result<()> 
 pub fn calls(output: &mut impl Write, runs: usize) -> io::Result<()> {
     for n in [10, 40, 64] {
         let (a, b) = (generate::numbers(n * n), generate::numbers(n));
-        let ns = best(runs, || plain::bare::eliminate(black_box(&a), black_box(&b), n));
+        let ns = best(runs, || plain::bare::eliminate(black_box(&a).clone(), black_box(&b).clone(), n));
         print(output, &format!("elimination n = {n}, copies of its arguments included"), runs, ns)?;
     }
     let (rows, columns) = (40, 60);
-    let m = generate::numbers(rows * columns);
-    let ns = best(runs, || plain::bare::null_space(black_box(&m), rows, columns, 1e-10));
+    let m = plain::bare::sparse(&generate::numbers(rows * columns), rows, columns);
+    let ns = best(runs, || plain::bare::null_space(black_box(&m), columns));
     print(output, "null space 40 x 60, basis included", runs, ns)?;
     sweeps(output, runs)
 }

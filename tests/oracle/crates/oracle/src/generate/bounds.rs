@@ -1,9 +1,9 @@
 //! Jobs at every bound, and one step beyond.
 
+use chance::Rng;
 use job::{Build, Equation, Field, Kind, MAX_MAGNITUDE, MAX_TEXT, MIN_SIZE, Point, Radius, State};
 
 use super::figure::{Figure, Hold, plus, times};
-use super::rng::Rng;
 use super::{Made, finish};
 
 type Case = fn(&mut Rng) -> Vec<u8>;

@@ -1,6 +1,7 @@
 //! Single calls from a seed.
 
-use super::rng::Rng;
+use chance::Rng;
+
 use super::{Made, several, soups, true_soup};
 
 type Case = fn(&mut Rng, u64) -> String;

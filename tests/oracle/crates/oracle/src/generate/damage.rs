@@ -1,8 +1,8 @@
 //! Sound texts with one thing broken, for every refusal that a text can meet.
 
+use chance::Rng;
 use job::{BAD_FORM, Build, Field, MAX_TEXT, Radius, State};
 
-use super::rng::Rng;
 use super::{Made, drawn, sections, several, soups, true_soup};
 
 pub fn job(rng: &mut Rng) -> Made {

@@ -2,9 +2,8 @@
 //! Starts are then put near the truth, so that a fit has real work to do and an end to reach.
 //! Everything is in drawing units until `build` divides the lengths by the size.
 
+use chance::Rng;
 use job::{Build, Contact, Equation, Field, Kind, MAX_EQUATIONS, MAX_LINES, MAX_MEASURES, MAX_POINTS, MAX_ROWS, Point, Radius, State};
-
-use super::rng::Rng;
 
 pub type At = [f64; 2];
 

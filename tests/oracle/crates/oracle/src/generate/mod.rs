@@ -4,16 +4,17 @@ mod bounds;
 mod calls;
 mod damage;
 mod figure;
-mod rng;
 mod sections;
 mod soups;
+mod strings;
 
 pub use calls::call;
+pub use strings::{damaged, string};
 
+use chance::Rng;
 use job::{Build, EQUATIONS, Field, Kind, MAX_EQUATIONS, MAX_ROWS};
 
 use figure::{Figure, Hold};
-use rng::Rng;
 
 /// A text with the class it belongs to.
 pub struct Made {

@@ -2,10 +2,10 @@
 
 use std::f64::consts::{FRAC_PI_2, PI};
 
+use chance::Rng;
 use job::{Contact, Kind, Radius};
 
 use super::figure::{At, Figure, Hold, plus, polar, times};
-use super::rng::Rng;
 
 /// A length as drawings have them: in steps of a half.
 fn size(rng: &mut Rng, low: usize, high: usize) -> f64 {

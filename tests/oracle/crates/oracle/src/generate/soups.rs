@@ -3,10 +3,10 @@
 
 use std::f64::consts::PI;
 
+use chance::Rng;
 use job::{Build, Contact, EQUATIONS, Equation, Field, Kind, MEASURES, Point, Radius, Slot, State};
 
 use super::figure::{At, Figure, Hold, length, minus, plus, polar, times};
-use super::rng::Rng;
 
 /// A figure of about `equations` equations, each kind as likely as any other.
 pub fn true_soup(rng: &mut Rng, equations: usize) -> Figure {

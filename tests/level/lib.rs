@@ -1,3 +1,0 @@
-
-// Appended by tests/level.
-pub use equations::levels::{Item, Rig};

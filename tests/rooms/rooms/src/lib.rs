@@ -1,0 +1,26 @@
+//! The proved code as tests call it: single rooms (librooms_c.a) and whole jobs (librun_c.a), and what every comparison ends in.
+
+mod calls;
+pub mod sakiromuk;
+mod tally;
+
+pub use calls::*;
+pub use tally::Tally;
+
+/// The bits of the NaN that is handed out.
+pub const NAN: u64 = 0x7ff8_0000_0000_0000;
+
+/// The same bits.
+pub fn same(x: &[f64], y: &[f64]) -> bool {
+    x.len() == y.len() && x.iter().zip(y).all(|(a, b)| a.to_bits() == b.to_bits())
+}
+
+/// The same bits, or both a NaN: for calls that hand nothing out, of whose NaNs no bits are promised.
+pub fn alike(x: f64, y: f64) -> bool {
+    x.to_bits() == y.to_bits() || (x.is_nan() && y.is_nan())
+}
+
+/// Times are left out where an emulator runs the proved code.
+pub fn timed() -> bool {
+    std::env::var_os("UNTIMED").is_none()
+}

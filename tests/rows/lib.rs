@@ -1,3 +1,0 @@
-
-// Appended by tests/rows.
-pub use equations::sweeps::Rig;
