@@ -6,7 +6,7 @@ use std::process::ExitCode;
 
 use job::{Build, Call, State, pack};
 use rooms::sakiromuk::{AREA, Fitter};
-use rooms::{NAN, NO_GROUP, NONE, REFUSED, SOLVED, Sweep, Tally};
+use rooms::{NO_GROUP, NONE, REFUSED, SOLVED, Sweep, Tally, one_nan};
 
 /// What the lent places of a `lent` call hold before it.
 const LENT: f64 = 7.0;
@@ -98,8 +98,8 @@ fn rows(build: &Build, points: &[usize], equations: &[usize]) -> String {
     if count != again {
         return format!("{count} residuals and {again} gradients\n");
     }
-    let one_nan = |v: &f64| if v.is_nan() { digits(f64::from_bits(NAN)) } else { digits(*v) };
-    let row = |(r, d): (&f64, &[f64])| format!("r={}\nd={}\n", one_nan(r), d.iter().map(one_nan).collect::<Vec<_>>().join(","));
+    let as_one = |v: &f64| format!("{:016x}", one_nan(*v));
+    let row = |(r, d): (&f64, &[f64])| format!("r={}\nd={}\n", as_one(r), d.iter().map(as_one).collect::<Vec<_>>().join(","));
     r[..count].iter().zip(j.chunks(coordinates)).map(row).collect()
 }
 

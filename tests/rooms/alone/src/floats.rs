@@ -6,7 +6,7 @@
 use std::process::ExitCode;
 
 use chance::Rng;
-use rooms::{NAN, Tally};
+use rooms::{NAN, Tally, one_nan};
 
 pub fn compare(count: u64, seed: u64) -> ExitCode {
     println!("floats: {count} patterns, seed {seed}");
@@ -29,11 +29,6 @@ fn pattern(rng: &mut Rng) -> f64 {
         0 => (bits & 0x8000_0000_0000_0003) | rng.pick(&[0, 0x7ff << 52, NAN, 1 << 52]),
         _ => bits,
     })
-}
-
-/// Bits with every NaN as the one that is handed out.
-fn one_nan(x: f64) -> u64 {
-    if x.is_nan() { NAN } else { x.to_bits() }
 }
 
 fn note(tally: &mut Tally, what: &str, of: f64, ours: u64, theirs: u64) {

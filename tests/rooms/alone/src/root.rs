@@ -5,7 +5,7 @@ use std::process::ExitCode;
 use std::time::Instant;
 
 use chance::Rng;
-use rooms::{NAN, Tally};
+use rooms::{Tally, one_nan};
 
 const FIELD: u64 = 1 << 52;
 const CLASSES: [(&str, fn(&mut Rng) -> u64); 5] = [
@@ -41,7 +41,7 @@ fn told(name: &str, tally: &mut Tally, class: impl FnOnce(&mut Tally)) {
 
 fn take(tally: &mut Tally, bits: u64) {
     let x = f64::from_bits(bits);
-    let (ours, theirs) = (rooms::sqrt(x).to_bits(), if x.sqrt().is_nan() { NAN } else { x.sqrt().to_bits() });
+    let (ours, theirs) = (rooms::sqrt(x).to_bits(), one_nan(x.sqrt()));
     tally.note(ours == theirs, || format!("{bits:016x}: {ours:016x}, and {theirs:016x} is right"));
 }
 

@@ -7,7 +7,7 @@ use std::time::Instant;
 
 use chance::Rng;
 use plain::bare;
-use rooms::{NONE, REFUSED, SOLVED, Tally, alike, same};
+use rooms::{NONE, REFUSED, SOLVED, Tally, one_nan, same};
 
 const TOO_MANY: u8 = job::TOO_MANY;
 const TOO_SHORT: u8 = job::TOO_SHORT;
@@ -31,7 +31,7 @@ pub fn compare(count: u64, seed: u64) -> ExitCode {
         let rows = rng.between(0, 64);
         tally.note(space(rng, kind, rows, n, &mut nans), || told("null space"));
     }
-    println!("{nans} null spaces with a NaN among the scaled rows, held to their rank alone");
+    println!("{nans} null spaces with a NaN among the scaled rows, held to their rank and to the bits of their NaNs");
     if rooms::timed() {
         time();
     }
@@ -144,7 +144,8 @@ fn too_many(rng: &mut Rng) -> bool {
 }
 
 /// The rank, the basis and every lent place. With a NaN among the scaled rows the Rust goes by the sign that the processor picked for
-/// it; the definition takes that column first, it spreads, and the rank is the lesser of rows and columns.
+/// it; the definition takes that column first, it spreads, and the rank is the lesser of rows and columns. Of the basis then the bits
+/// of its NaNs are held.
 fn space(rng: &mut Rng, kind: usize, rows: usize, n: usize, nans: &mut usize) -> bool {
     // The Rust takes sparse rows, whose places start from +0.0.
     let m: Vec<f64> = table(rng, kind, rows, n).iter().map(|x| 0.0 + x).collect();
@@ -155,8 +156,10 @@ fn space(rng: &mut Rng, kind: usize, rows: usize, n: usize, nans: &mut usize) ->
         1 if n > 0 => out.truncate(n * n - 1),
         _ => {}
     }
-    let (mut their_work, mut their_out, nan) = (work.clone(), out.clone(), bare::nan_in_matrix(&m, rows, n));
-    let theirs = if work.len() < rows * n || out.len() < n * n {
+    let refused = work.len() < rows * n || out.len() < n * n;
+    let nan = !refused && bare::nan_in_matrix(&m, rows, n);
+    let (lent, mut their_work, mut their_out) = (out.clone(), work.clone(), out.clone());
+    let theirs = if refused {
         REFUSED + usize::from(TOO_SHORT)
     } else {
         let (rank, basis) = bare::null_space(&bare::sparse(&m, rows, n), n);
@@ -166,7 +169,14 @@ fn space(rng: &mut Rng, kind: usize, rows: usize, n: usize, nans: &mut usize) ->
         if nan { rows.min(n) } else { rank }
     };
     let ours = rooms::null_space(&m, rows, n, &mut work, &mut out);
-    ours == theirs && same(&work, &their_work) && (nan || same(&out, &their_out))
+    if ours != theirs || !same(&work, &their_work) {
+        return false;
+    }
+    if !nan {
+        return same(&out, &their_out);
+    }
+    let basis = (n - ours) * n;
+    out[..basis].iter().all(|v| v.to_bits() == one_nan(*v)) && same(&out[basis..], &lent[basis..])
 }
 
 fn too_large(rng: &mut Rng) -> bool {
@@ -178,10 +188,9 @@ fn too_large(rng: &mut Rng) -> bool {
     ours == REFUSED + usize::from(TOO_MANY) && same(&work, &before_work) && same(&out, &before_out)
 }
 
-/// Neither is handed out: a NaN has whatever bits the processor picks, on both sides.
 fn figures(rng: &mut Rng, kind: usize, n: usize) -> bool {
     let v = table(rng, kind, n, 1);
-    alike(rooms::max_abs(&v), bare::max_abs(&v)) && alike(rooms::norm2(&v), bare::norm2(&v))
+    rooms::max_abs(&v).to_bits() == bare::max_abs(&v).to_bits() && rooms::norm2(&v).to_bits() == one_nan(bare::norm2(&v))
 }
 
 fn time() {
