@@ -223,19 +223,19 @@ fn midpoint(jac: &mut [f64], places: &[u8], columns: &[u8], to: Into, p: PointNo
     requires { ⌜ (to .base ≤ 6320) × (to .n ≤ 80) ⌝ }
     ensures { λ m. ⌜ laid m (now (jac .exit)) ≡ rowsInto (now (places .entry)) (now (columns .entry)) to (now (jac .entry)) (midpointOf nowhere p l) ⌝ }
 {
-    let d = Vec2 { x: 1.0, y: 0.0 };
-    let half = times_vec(-0.5, d);
+    let dx = Vec2 { x: 1.0, y: 0.0 };
+    let half_x = times_vec(-0.5, dx);
     clear_row(jac, to);
-    push(jac, places, columns, to, p, d);
-    push(jac, places, columns, to, l.from, half);
-    push(jac, places, columns, to, l.to, half);
-    let e = Vec2 { x: 0.0, y: 1.0 };
-    let less = times_vec(-0.5, e);
+    push(jac, places, columns, to, p, dx);
+    push(jac, places, columns, to, l.from, half_x);
+    push(jac, places, columns, to, l.to, half_x);
+    let dy = Vec2 { x: 0.0, y: 1.0 };
+    let half_y = times_vec(-0.5, dy);
     let second = next(to);
     clear_row(jac, second);
-    push(jac, places, columns, second, p, e);
-    push(jac, places, columns, second, l.from, less);
-    push(jac, places, columns, second, l.to, less);
+    push(jac, places, columns, second, p, dy);
+    push(jac, places, columns, second, l.from, half_y);
+    push(jac, places, columns, second, l.to, half_y);
     2
 }
 
@@ -287,13 +287,13 @@ fn symmetric(
     // The middle of the two points on the line..
     let d = dir(places, x, l);
     let m = middle(places, x, p, q, l.from);
-    let across = turned_up(d.u);
-    let half = times_vec(0.5, across);
+    let up = turned_up(d.u);
+    let half = times_vec(0.5, up);
     clear_row(jac, to);
     through1(jac, places, columns, to, l, d, turned_down(m));
     push(jac, places, columns, to, p, half);
     push(jac, places, columns, to, q, half);
-    push(jac, places, columns, to, l.from, plane::neg(across));
+    push(jac, places, columns, to, l.from, plane::neg(up));
     // ..and the segment between them across it.
     let w = offset(places, x, p, q);
     let second = next(to);

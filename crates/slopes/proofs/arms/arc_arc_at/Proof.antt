@@ -1,5 +1,4 @@
 -- What the calls promise, from the last to the first. Assumes nothing.
-use borrow.Author.Needs.{needs}
 use mathlib.Core.Path.{_∙_}
 use Rattle.loops.specs.Turns.{fold}
 use Rattle.rows.specs.Kinds.{arcArcAtOf}
@@ -39,18 +38,18 @@ pub arc-arc-at-spec : {M : Type 1} → statement M
 arc-arc-at-spec =
     tie.close
     (tie.spec
-    (λ c κs. search needs)
-    (λ c κs. search needs)
-    (λ c κs. search needs)
-    (λ c κs. search needs)
-    (λ c κs. search needs)
-    (λ c κs. search needs)
+    (λ c κs. tt)
+    (λ c κs. tt)
+    (λ c κs. tt)
+    (λ c κs. tt)
+    (λ c κs. tt)
+    (λ c κs. tt)
     (λ c κs. within (c .before .before .before .before .before .before .before .before .before .before .before .pre))
-    (λ c κs. search needs)
+    (λ c κs. tt)
     (λ c κs. within (c .before .before .before .before .before .before .before .before .before .before .before .before .before .before .before .before .pre))
-    (λ c κs. search needs)
+    (λ c κs. tt)
     (λ c κs. within (c .before .before .before .before .before .before .before .before .before .before .before .before .before .before .before .before .before .before .before .before .before .pre))
-    (λ c κs. search needs)
+    (λ c κs. tt)
     (λ c κs. within (c .before .before .before .before .before .before .before .before .before .before .before .before .before .before .before .before .before .before .before .before .before .before .before .before .before .before .pre))
     same-length
     returns)

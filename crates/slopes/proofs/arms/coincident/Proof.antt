@@ -1,5 +1,4 @@
 -- A row after the other: what the calls promise, from the last to the first. Assumes nothing.
-use borrow.Author.Needs.{needs}
 use mathlib.Core.Path.{_∙_}
 use Rattle.loops.specs.Turns.{fold}
 use Rattle.rows.specs.Kinds.{coincidentOf}

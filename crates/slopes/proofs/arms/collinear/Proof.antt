@@ -1,5 +1,4 @@
 -- A row after the other: what the calls promise, from the last to the first. Assumes nothing.
-use borrow.Author.Needs.{needs}
 use mathlib.Core.Path.{_∙_}
 use Rattle.loops.specs.Turns.{fold}
 use Rattle.rows.specs.Kinds.{collinearOf}
@@ -44,19 +43,19 @@ pub collinear-spec : {M : Type 1} → statement M
 collinear-spec =
     tie.close
     (tie.spec
-    (λ c κs. search needs)
-    (λ c κs. search needs)
-    (λ c κs. search needs)
+    (λ c κs. tt)
+    (λ c κs. tt)
+    (λ c κs. tt)
     (λ c κs. within (c .before .before .before .before .before .before .before .before .pre))
-    (λ c κs. search needs)
+    (λ c κs. tt)
     (λ c κs. within (c .before .before .before .before .before .before .before .before .before .before .before .before .before .pre))
-    (λ c κs. search needs)
+    (λ c κs. tt)
     (λ c κs. c .before .before .before .before .before .before .before .before .before .before .before .before .before .before .before .before .before .pre)
     (λ c κs. c .before .next .ensures .1)
-    (λ c κs. search needs)
+    (λ c κs. tt)
     (λ c κs. c .before .before .before .before .before .before .next .ensures .1)
     (λ c κs. c .before .before .before .before .before .before .before .before .before .before .next .ensures .1)
-    (λ c κs. search needs)
+    (λ c κs. tt)
     (λ c κs. c .before .before .before .before .before .before .before .before .before .before .before .before .before .before .before .next .ensures .1)
     same-length
     returns)

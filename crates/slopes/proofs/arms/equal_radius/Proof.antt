@@ -1,5 +1,4 @@
 -- What the calls promise, from the last to the first. Assumes nothing.
-use borrow.Author.Needs.{needs}
 use mathlib.Core.Path.{_∙_}
 use Rattle.loops.specs.Turns.{fold}
 use Rattle.rows.specs.Kinds.{equalRadiusOf}
@@ -36,13 +35,13 @@ pub equal-radius-spec : {M : Type 1} → statement M
 equal-radius-spec =
     tie.close
     (tie.spec
-    (λ c κs. search needs)
-    (λ c κs. search needs)
+    (λ c κs. tt)
+    (λ c κs. tt)
     (λ c κs. within (c .before .before .before .before .before .before .before .pre))
     (λ c κs. within (c .before .before .before .before .before .before .before .before .before .before .before .pre))
-    (λ c κs. search needs)
+    (λ c κs. tt)
     (λ c κs. within (c .before .before .before .before .before .before .before .before .before .before .before .before .before .before .before .before .pre))
-    (λ c κs. search needs)
+    (λ c κs. tt)
     (λ c κs. within (c .before .before .before .before .before .before .before .before .before .before .before .before .before .before .before .before .before .before .before .before .before .pre))
     (λ c κs. within (c .before .before .before .before .before .before .before .before .before .before .before .before .before .before .before .before .before .before .before .before .before .before .before .before .before .pre))
     same-length

@@ -1,6 +1,5 @@
 -- What the calls promise, from the last to the first. Assumes nothing.
 use borrow.Author.Needs.{needs}
-use mathlib.Core.Path.{_∙_}
 use Rattle.loops.specs.Turns.{fold}
 use Rattle.rows.specs.Kinds.{parallelOf}
 use Rattle.slopes.specs.Arms.{rowsFrom}
@@ -8,12 +7,6 @@ use Rattle.slopes.specs.Dense.{rowInto}
 use Rattle.slopes.proofs.Held.{within}
 use Rattle.slopes.proofs.arms.parallel.Statement.{statement}
 use Rattle.slopes.proofs.arms.parallel.Tie as tie
-
-same-length : tie.Need-same-length
-same-length c =
-    let through2 = c .before .before in
-    let clear-row = through2 .before .before .before .before .before .before in
-    through2 .through2 .kept .0 ∙ clear-row .clear-row .kept .0
 
 returns : tie.Need-returns
 unfolding parallelOf rowsFrom rowInto fold
@@ -30,11 +23,11 @@ pub parallel-spec : {M : Type 1} → statement M
 parallel-spec =
     tie.close
     (tie.spec
-    (λ c κs. search needs)
-    (λ c κs. search needs)
+    (λ c κs. tt)
+    (λ c κs. tt)
     (λ c κs. within (c .before .before .before .before .before .before .before .pre))
-    (λ c κs. search needs)
-    (λ c κs. search needs)
+    (λ c κs. tt)
+    (λ c κs. tt)
     (λ c κs. within (c .before .before .before .before .before .before .before .before .before .before .before .before .before .pre))
-    same-length
+    (λ c. search needs)
     returns)

@@ -1,6 +1,5 @@
 -- What the calls promise, from the last to the first. Assumes nothing.
 use borrow.Author.Needs.{needs}
-use mathlib.Core.Path.{_∙_}
 use Rattle.loops.specs.Turns.{fold}
 use Rattle.rows.specs.Kinds.{radiusKindOf}
 use Rattle.slopes.specs.Arms.{rowsFrom}
@@ -8,13 +7,6 @@ use Rattle.slopes.specs.Dense.{rowInto}
 use Rattle.slopes.proofs.Held.{within}
 use Rattle.slopes.proofs.arms.radius_kind.Statement.{statement}
 use Rattle.slopes.proofs.arms.radius_kind.Tie as tie
-
-same-length : tie.Need-same-length
-same-length c =
-    let push2 = c .before .before in
-    let push = push2 .before .before .before .before .before in
-    let clear-row = push .before .before .before .before in
-    push2 .push2 .kept .0 ∙ push .push .kept .0 ∙ clear-row .clear-row .kept .0
 
 returns : tie.Need-returns
 unfolding radiusKindOf rowsFrom rowInto fold
@@ -30,10 +22,10 @@ pub radius-kind-spec : {M : Type 1} → statement M
 radius-kind-spec =
     tie.close
     (tie.spec
-    (λ c κs. search needs)
+    (λ c κs. tt)
     (λ c κs. within (c .before .before .before .before .before .before .pre))
     (λ c κs. within (c .before .before .before .before .before .before .before .before .before .before .pre))
-    (λ c κs. search needs)
+    (λ c κs. tt)
     (λ c κs. within (c .before .before .before .before .before .before .before .before .before .before .before .before .before .before .before .pre))
-    same-length
+    (λ c. search needs)
     returns)

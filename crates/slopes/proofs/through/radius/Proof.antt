@@ -23,10 +23,10 @@ radius-spec =
     tie.close
     (tie.spec
     (λ c. search needs)
-    (λ c κs. search needs)
-    (λ c κs. search needs)
+    (λ c κs. tt)
+    (λ c κs. tt)
     (λ c κs. c .before .before .before .before .before .before .before .before .before .before .pre)
-    (λ c κs. search needs)
+    (λ c κs. tt)
     (λ c κs. c .before .before .before .before .before .before .before .before .before .before .before .before .before .before .before .pre)
     (λ c. search needs)
     (λ c. search needs)

@@ -17,9 +17,9 @@ pub through1-spec : {M : Type 1} → statement M
 through1-spec =
     tie.close
     (tie.spec
-    (λ c κs. search needs)
+    (λ c κs. tt)
     (λ c κs. c .before .before .before .before .before .pre)
-    (λ c κs. search needs)
+    (λ c κs. tt)
     (λ c κs. c .before .before .before .before .before .before .before .before .before .before .pre)
     (λ c. search needs)
     returns)
