@@ -1,5 +1,5 @@
 -- One row, as the Rust's `emit` takes it: its value, and its gradient as entries (point, dx, dy) in order. At most two rows
--- come of an equation, and at most six entries of a row: the code holds them by value.
+-- come of an equation.
 use mathlib.Core.List.{List, []}
 use lib.Ieee.{Float}
 use lib.ListN.{length, getD}

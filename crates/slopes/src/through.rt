@@ -4,6 +4,7 @@ ghost use Prim.Native.Nat.{_≤_};
 ghost use Rattle.loops.specs.Turns.{fold};
 ghost use Rattle.rows.specs.Kinds.{through1Of, through2Of, radiusEntries};
 ghost use Rattle.rows.specs.Located.{atOf};
+ghost use Rattle.sketch.specs.declared.Rad.{Rad};
 ghost use Rattle.slopes.specs.Dense.{addEntry};
 use crate::dense::Into;
 use crate::dense::push;
@@ -44,6 +45,25 @@ pub(crate) fn through2(jac: &mut [f64], places: &[u8], columns: &[u8], to: Into,
     through1(jac, places, columns, to, j.0, j.1, j.2);
 }
 
+// The gradient of the distance of p from c, times `scale`.
+fn around(
+    jac: &mut [f64],
+    places: &[u8],
+    columns: &[u8],
+    to: Into,
+    x: &[f64],
+    p: PointNo,
+    c: PointNo,
+    scale: f64,
+)
+    requires { ⌜ (to .base ≤ 6400) × (to .n ≤ 80) ⌝ }
+    ensures { λ _. ⌜ now (jac .exit) ≡ fold (addEntry (now (places .entry)) (now (columns .entry)) (to .n) (to .base)) (now (jac .entry)) (radiusEntries (atOf (now (places .entry)) (now (x .entry))) (Rad.Point p) c scale) ⌝ }
+{
+    let d = toward(places, x, c, p);
+    push(jac, places, columns, to, p, times_vec(scale, d.u));
+    push(jac, places, columns, to, c, times_vec(-scale, d.u));
+}
+
 // The gradient of a circle's radius around c, times `scale`.
 pub(crate) fn radius(
     jac: &mut [f64],
@@ -59,11 +79,7 @@ pub(crate) fn radius(
     ensures { λ _. ⌜ now (jac .exit) ≡ fold (addEntry (now (places .entry)) (now (columns .entry)) (to .n) (to .base)) (now (jac .entry)) (radiusEntries (atOf (now (places .entry)) (now (x .entry))) rad c scale) ⌝ }
 {
     match rad {
-        Rad::Point(p) => {
-            let d = toward(places, x, c, p);
-            push(jac, places, columns, to, p, times_vec(scale, d.u));
-            push(jac, places, columns, to, c, times_vec(-scale, d.u));
-        }
+        Rad::Point(p) => around(jac, places, columns, to, x, p, c, scale),
         Rad::Value(_) => {}
     }
 }
