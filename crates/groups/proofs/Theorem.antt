@@ -15,7 +15,7 @@ use lib.Seq.{getD-take}
 use Rattle.loops.specs.Turns.{every}
 use Rattle.sketch.proofs.Within.{within}
 use Rattle.sketch.specs.Check.{checkOf}
-use Rattle.sketch.specs.Given.{passes-exactly}
+use Rattle.sketch.proofs.Given.{given-exactly}
 use Rattle.sketch.specs.Indices.{isPoint, isLine, foundLine, foundRad, foundEquation, foundActive, foundMeasured, foundBuild}
 use Rattle.sketch.specs.Involved.{noLine, lineAt, ends, centred, involvedOf}
 use Rattle.sketch.specs.Parts.{linesOf, equationsOf, measuresOf}
@@ -175,12 +175,12 @@ past es ls k p m = go (decLt k (length es)) m
 
 module _ (b : Build) (passes : checkOf b ≡ Passes) where
   counts : (b .«point_count» ≤ 40) × (b .«line_count» ≤ 40) × (b .«equation_count» ≤ 40) × (b .«measure_count» ≤ 20)
-  counts = within b (passes-exactly b .0 passes .0)
+  counts = within b (given-exactly b .passes .0 passes .0)
 
   found : (every (foundLine (b .«point_count»)) (linesOf b) ≡ true)
       × (every (foundActive (b .«point_count») (b .«line_count»)) (equationsOf b) ≡ true)
       × (every (foundMeasured (b .«point_count») (b .«line_count»)) (measuresOf b) ≡ true)
-  found = both3 _ _ _ (not-false (foundBuild b) (passes-exactly b .0 passes .2))
+  found = both3 _ _ _ (not-false (foundBuild b) (given-exactly b .passes .0 passes .2))
 
   inside : (k p : ℕ) → Touches (touchedBy b) k p → p < 40
   unfolding touchedIn

@@ -23,7 +23,7 @@ use Rattle.members.specs.Lists.{numbersOf}
 use Rattle.rounds.specs.Problem.{moreRows, rowCount}
 use Rattle.rows.specs.Column.{heldActive, equationAt}
 use Rattle.sketch.specs.Check.{checkOf}
-use Rattle.sketch.specs.Given.{passes-exactly}
+use Rattle.sketch.proofs.Given.{given-exactly}
 use Rattle.sketch.specs.Involved.{involvedOf}
 use Rattle.sketch.specs.Parts.{equationsOf}
 use Rattle.sketch.specs.Rows.{rowsOf, rowsOfBuild}
@@ -115,7 +115,7 @@ module _ (b : Build) (passes : checkOf b ≡ Passes) (g : ℕ) (among : g < grou
       (omega (
         arith,
         some (equationsOf b) (groupingOf b .«of_equation») g 0 0 0 (le-refl 0),
-        ltb-false 64 (rowsOfBuild b) (passes-exactly b .0 passes .3),
+        ltb-false 64 (rowsOfBuild b) (given-exactly b .passes .0 passes .3),
       ))
 
   listed : numbersOf (frameIn b (groupingOf b) g .equations) ≡ equationsIn (groupingOf b) g

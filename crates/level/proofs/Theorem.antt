@@ -15,7 +15,7 @@ use Rattle.loops.specs.Picks.{both}
 use Rattle.loops.specs.Turns.{turns, upTo, every}
 use Rattle.sketch.proofs.Within.{within}
 use Rattle.sketch.specs.Check.{checkOf}
-use Rattle.sketch.specs.Given.{passes-exactly}
+use Rattle.sketch.proofs.Given.{given-exactly}
 use Rattle.sketch.specs.Indices.{isPoint, foundLine, foundEquation, foundActive, foundMeasured, foundBuild}
 use Rattle.sketch.specs.Parts.{linesOf, equationsOf, measuresOf}
 use Rattle.sketch.specs.declared.Active.{Active}
@@ -131,14 +131,14 @@ module _ (fixed : List Bool) (few : length fixed ≤ 40) (es : List Active) (n :
 -- the build's array of points has 40 places
 module _ (b : Build) (array : length (b .points) ≤ 40) (passes : checkOf b ≡ Passes) where
   count : b .«point_count» ≤ 40
-  count = within b (passes-exactly b .0 passes .0) .0
+  count = within b (given-exactly b .passes .0 passes .0) .0
 
   found : every (foundActive (b .«point_count») (b .«line_count»)) (equationsOf b) ≡ true
   found =
       let lines = every (foundLine (b .«point_count»)) (linesOf b) in
       let equations = every (foundActive (b .«point_count») (b .«line_count»)) (equationsOf b) in
       let measures = every (foundMeasured (b .«point_count») (b .«line_count»)) (measuresOf b) in
-      let all = not-false (foundBuild b) (passes-exactly b .0 passes .2) in
+      let all = not-false (foundBuild b) (given-exactly b .passes .0 passes .2) in
       both lines equations (both (lines && equations) measures all .0) .1
 
   small : (axis p q : ℕ) → Tied axis (equationsOf b) p q → (p < 40) × (q < 40)

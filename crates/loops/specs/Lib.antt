@@ -5,9 +5,11 @@
 --     Picks     a value that a test picks
 --     Cells     the places of a table that lies in a slice row after row
 --     Parts     a part of a slice that is lent and comes back
+--     Numbers   document 01's numbers by name, and what an answer says by them
 pub mod Turns
 pub mod Keeps
 pub mod Writes
 pub mod Picks
 pub mod Cells
 pub mod Parts
+pub mod Numbers

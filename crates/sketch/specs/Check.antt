@@ -1,7 +1,10 @@
 -- What a library build ends in before its fit: document 01's 3, 4, 5 and 6, in 01's order.
 use mathlib.Core.Bool.{Bool, true, false, not, _||_}
+use mathlib.Core.Path.{_≡_}
 use Prim.Native.Nat.{ℕ}
 use lib.Dec.{ltb}
+use Rattle.loops.specs.Numbers as number
+use Rattle.loops.specs.Numbers.{Meaning, refused, values}
 use Rattle.sketch.specs.Indices.{foundBuild}
 use Rattle.sketch.specs.Numbers.{boundedBuild}
 use Rattle.sketch.specs.Rows.{rowsOfBuild}
@@ -13,15 +16,15 @@ use Rattle.sketch.specs.declared.Ending.the-variants.{Fitted, TooLong, B
 
 -- document 01's number of each ending
 abbrev pub numberOf : Ending → ℕ
-numberOf Fitted = 0
-numberOf TooLong = 1
-numberOf BadForm = 2
-numberOf TooMany = 3
-numberOf OutOfBounds = 4
-numberOf NoSuchItem = 5
-numberOf TooManyRows = 6
-numberOf NotConverged = 7
-numberOf TooShort = 9
+numberOf Fitted = number.fitted
+numberOf TooLong = number.tooLong
+numberOf BadForm = number.badForm
+numberOf TooMany = number.tooMany
+numberOf OutOfBounds = number.outOfBounds
+numberOf NoSuchItem = number.noSuchItem
+numberOf TooManyRows = number.tooManyRows
+numberOf NotConverged = number.notConverged
+numberOf TooShort = number.tooShort
 
 -- 3: a count over its bound
 abbrev pub overBound : Build → Bool
@@ -50,3 +53,22 @@ ordered false false false false = Passes
 
 unfoldable pub checkOf : Build → Checked
 checkOf b = ordered (overBound b) (outOfBounds b) (refersToNothing b) (overRows b)
+
+-- ---- by 01's numbers
+
+-- what an answer of `check` on b says: the number that b ends in, or b as it is where it passes
+abbrev pub meaningOf : Build → Checked → Meaning Build
+meaningOf b (Ends e) = refused (numberOf e)
+meaningOf b Passes = values b
+
+-- the number of the first of 01's rows that holds, or the build where none does
+abbrev pub numbered : Build → Bool → Bool → Bool → Bool → Meaning Build
+numbered b true u m r = refused 3
+numbered b false true m r = refused 4
+numbered b false false true r = refused 5
+numbered b false false false true = refused 6
+numbered b false false false false = values b
+
+pub record Checks (b : Build) (r : Checked) : Type 0 where
+  pub answer : r ≡ checkOf b
+  pub meaning : meaningOf b r ≡ numbered b (overBound b) (outOfBounds b) (refersToNothing b) (overRows b)

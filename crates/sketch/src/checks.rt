@@ -1,7 +1,7 @@
 // The check before a fit: document 01's 3, 4, 5 and 6, in 01's order.
 ghost use mathlib.Core.Path.{_≡_};
 ghost use mathlib.Core.Bool.{false};
-ghost use Rattle.sketch.specs.Check.{overBound, overRows, checkOf};
+ghost use Rattle.sketch.specs.Check.{overBound, overRows, Checks};
 ghost use Rattle.sketch.specs.Indices.{foundBuild};
 ghost use Rattle.sketch.specs.Numbers.{boundedBuild};
 use crate::Build;
@@ -61,7 +61,7 @@ fn rows_over(b: Build) -> bool
 
 // What a build ends in before its fit, or that it passes.
 pub fn check(b: Build) -> Checked
-    ensures { λ r. ⌜ r ≡ checkOf b ⌝ }
+    ensures { λ r. ⌜ Checks b r ⌝ }
 {
     if counts_over(b) {
         return Checked::Ends(Ending::TooMany);

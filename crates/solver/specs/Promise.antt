@@ -9,24 +9,19 @@ use lib.ListN.{length, take, drop, replicate}
 use lib.Ieee.{Float}
 use Rattle.floats.specs.Only.{only-answer}
 use Rattle.floats.specs.Ops.{zero⁺}
+use Rattle.loops.specs.Numbers.{Meaning, refused, none, values, tooMany, tooShort}
 use Rattle.loops.specs.Turns.{Try, go, stop}
 use Rattle.loops.specs.Picks.{pick-yes, pick-no}
 use Rattle.solver.specs.declared.Elimination.{Elimination}
 use Rattle.solver.specs.declared.Elimination.the-variants.{Solved, None, TooMany, TooShort}
 use Rattle.solver.specs.Steps.{solutionOf}
 
--- What an answer says in document 01's terms: its table's number for a refusal, no answer, or the answer's values.
-pub data Meaning : Type 0 where
-  refused : ℕ → Meaning
-  none : Meaning
-  values : List Float → Meaning
-
--- each case of the answer, with the right side as it is afterwards
-abbrev pub meaningOf : ℕ → List Float → Elimination → Meaning
+-- what each case of the answer says in document 01's terms, with the right side as it is afterwards
+abbrev pub meaningOf : ℕ → List Float → Elimination → Meaning (List Float)
 meaningOf n b′ Solved = values (take n b′)
 meaningOf n b′ None = none
-meaningOf n b′ TooMany = refused 3
-meaningOf n b′ TooShort = refused 9
+meaningOf n b′ TooMany = refused tooMany
+meaningOf n b′ TooShort = refused tooShort
 
 -- document 01's table for a call on a bare matrix: 3, then 9, and otherwise the call is carried out
 module _ {A : Type 0} (n : ℕ) (a b : List Float) where
@@ -54,7 +49,7 @@ abbrev pub found : Try (List Float) → Elimination
 found (go y) = Solved
 found stop = None
 
-abbrev pub meant : Try (List Float) → Meaning
+abbrev pub meant : Try (List Float) → Meaning (List Float)
 meant (go y) = values y
 meant stop = none
 
@@ -78,7 +73,7 @@ rightAfter n a b = checked n a b b b (orZeros n (solved n a b) ++ drop n b)
 
 pub record Solves (n : ℕ) (a b a′ b′ : List Float) (r : Elimination) : Type 0 where
   pub answer : r ≡ answerOf n a b
-  pub meaning : meaningOf n b′ r ≡ checked n a b (refused 3) (refused 9) (meant (solved n a b))
+  pub meaning : meaningOf n b′ r ≡ checked n a b (refused tooMany) (refused tooShort) (meant (solved n a b))
   pub matrix : a′ ≡ matrixAfter n a b
   pub right : b′ ≡ rightAfter n a b
 

@@ -13,10 +13,11 @@ use lib.ListN.{length, take, drop, replicate}
 use lib.Ieee.{Float}
 use borrow.Author.Tests.{not-true, not-false, leb-true}
 use Rattle.floats.specs.Ops.{zero⁺}
+use Rattle.loops.specs.Numbers.{values}
 use Rattle.loops.specs.Turns.{tried}
 use Rattle.loops.specs.Parts.{front, still-fits, refilled}
 use Rattle.solver.specs.declared.Elimination.the-variants.{Solved, None}
-use Rattle.solver.specs.Promise.{Solves, values, too-many, short-matrix, short-right, carried-out, found, meant, orZeros, solved}
+use Rattle.solver.specs.Promise.{Solves, too-many, short-matrix, short-right, carried-out, found, meant, orZeros, solved}
 use borrow.Author.Needs.{needs}
 use Rattle.solver.proofs.solve_dense.Statement.{statement}
 use Rattle.solver.proofs.solve_dense.Tie as tie

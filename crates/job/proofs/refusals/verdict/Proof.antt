@@ -19,7 +19,7 @@ returns-2 c =
 returns-3 : tie.Need-returns-3
 returns-3 c =
     let a = c .before .before .before .before .before .args in
-    verdict-checked (a .b) (a .out) (a .p) (a .q) (a .r) _ (sym (c .before .before .before .before .counts-over .ensures) ∙ c .before .before .before .if1 .left) (sym (c .before .before .no-room .ensures) ∙ c .before .if2 .left) (c .check .ensures)
+    verdict-checked (a .b) (a .out) (a .p) (a .q) (a .r) _ (sym (c .before .before .before .before .counts-over .ensures) ∙ c .before .before .before .if1 .left) (sym (c .before .before .no-room .ensures) ∙ c .before .if2 .left) (c .check .ensures .answer)
 
 pub verdict-spec : {M : Type 1} → statement M
 verdict-spec =
