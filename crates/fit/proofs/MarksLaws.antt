@@ -65,7 +65,7 @@ module _ (l : Listed) (n i : ℕ) (e : n ≡ length (numbersOf l)) where
 
 module _ (b : Build) (f : Frame) (p q r : List Float) where
   pub unmarked : short p q r ≡ true → Marks b f p q r p q r (record { short = true; marks = replicate 40 false })
-  unmarked h = record { answer = rw h; jacobian = rw h; product = rw h; copy = rw h }
+  unmarked h = record { answer = rw h; meaning = rw h; jacobian = rw h; product = rw h; copy = rw h }
 
   pub marks-all : (p′ q′ r′ : List Float) (t : List Bool) → short p q r ≡ false → Suspects b f p q r p′ q′ r′ t → Marks b f p q r p′ q′ r′ (record { short = false; marks = t })
-  marks-all p′ q′ r′ t h u = record { answer = rw (h, u .answer); jacobian = rw h (u .jacobian); product = rw h (u .product); copy = rw h (u .copy) }
+  marks-all p′ q′ r′ t h u = record { answer = rw (h, u .answer); meaning = rw (h, u .answer); jacobian = rw h (u .jacobian); product = rw h (u .product); copy = rw h (u .copy) }

@@ -1,31 +1,38 @@
 -- From what the calls of `freedom` promise to its definition. Assumes nothing.
 use Prim.Native.Nat.{ℕ, zero, suc, _+_, _-_, _*_, _≤_, _<_, min}
-use mathlib.Core.Bool.{Bool, true, false, cond}
+use mathlib.Core.Bool.{true, false}
 use mathlib.Core.List.{List, [], _∷_, _++_}
 use mathlib.Core.Path.{_≡_, refl, sym, ap, _∙_}
-use native.Mathlib.Nat.{le-refl, min-le-right, mul-le-mul-right}
+use native.Mathlib.Nat.{add-zero, le-refl, min-le-right, mul-le-mul-right}
 use native.Mathlib.Omega.{arith}
-use borrow.Author.Tests.{le-ltb}
+use borrow.Author.Tests.{le-ltb, lt-ltb}
 use lib.Dec.{ltb}
 use lib.Ieee.{Float}
-use lib.ListN.{length, take, drop, replicate, length-take, length-append, length-drop}
+use lib.ListN.{length, getD, take, drop, replicate, length-take, length-append, length-drop}
 use lib.Seq.{length-take-le, take-at, drop-at, drop-drop, drop-append-add}
 use Rattle.floats.specs.Ops.{zero⁺}
+use Rattle.loops.specs.Turns.{fold}
 use Rattle.members.specs.Lists.{numbersOf}
 use Rattle.members.specs.Movable.{indicesOf}
+use Rattle.members.specs.declared.Listed.{Listed}
 use Rattle.nullspace.specs.Promise.{Spans, checked, decomposedOf, vectorsOf}
 use Rattle.nullspace.specs.Steps.{rankOf}
 use Rattle.nullspace.specs.declared.NullSpace.{NullSpace}
 use Rattle.rounds.proofs.Begins.{fits-in}
 use Rattle.rounds.specs.Column.{table-is, jacobian-long, rows-few}
-use Rattle.rounds.specs.Problem.{rowCount, jacobianAt}
+use Rattle.rounds.specs.Problem.{moreRows, rowCount, jacobianAt}
 use Rattle.rounds.specs.Promise.{zeroed}
-use Rattle.rows.specs.Column.{Laid, laid}
+use Rattle.rows.proofs.Held.{held}
+use Rattle.rows.specs.Column.{Laid, laid, equationAt}
+use Rattle.sketch.specs.Rows.{rowsOf}
+use Rattle.sketch.specs.declared.Active.{Active}
 use Rattle.sketch.specs.declared.Build.{Build}
+use Rattle.sketch.specs.declared.Equation.{Equation}
 use Rattle.slopes.specs.Dense.{jacobianOf}
-use Rattle.fit.specs.Fits.{gradientsOf, freedomOf, overRows, short, Lays, Ranks, freedBy, Frees}
+use Rattle.fit.specs.Fits.{gradientsOf, freedomOf, overRows, short, meaningOf, Lays, Ranks, freedBy, Frees}
 use Rattle.fit.specs.declared.Degrees.{Degrees}
 use Rattle.fit.specs.declared.Frame.{Frame}
+use Rattle.fit.proofs.MarksLaws.{turn-next}
 
 -- ---- how many items of an array are listed
 
@@ -99,28 +106,24 @@ past v a a′ m k e l h t =
     let d : m + (k - m) ≡ k = omega arith in
     ap (drop k) e ∙ (rw c at (drop-append-add v (drop m a) (k - m))) ∙ drop-drop (k - m) m a ∙ ap (λ i. drop i a) d
 
-module _ (rows n : ℕ) (p q r : List Float) (few : rows ≤ 80) (narrow : n ≤ 80) (roomP : 6400 ≤ length p) (roomQ : 6400 ≤ length q) (roomR : 6400 ≤ length r) where
+module _ (rows n : ℕ) (p q r : List Float) (few : rows ≤ 64) (narrow : n ≤ 80) (roomP : 6400 ≤ length p) (roomQ : 6400 ≤ length q) (roomR : 6400 ≤ length r) where
   abbrev m : List Float
   m = take (rows * n) p
 
   size-in : rows * n ≤ length p
-  size-in = fits-in rows n (length p) few narrow roomP
+  size-in = fits-in rows n (length p) (omega arith) narrow roomP
 
   square-in : n * n ≤ length r
   square-in = fits-in n n (length r) narrow narrow roomR
 
-  checked-is : {A : Type 0} (three nine done : A) → checked rows n m q r three nine done ≡ cond (ltb 64 rows) three done
+  checked-is : {A : Type 0} (three nine done : A) → checked rows n m q r three nine done ≡ done
   unfolding checked
   checked-is three nine done =
       let long : rows * n ≤ length m = rw (length-take-le (rows * n) p size-in) (le-refl (rows * n)) in
-      rw (le-ltb 80 n narrow, le-ltb (length m) (rows * n) long, le-ltb (length q) (rows * n) (fits-in rows n (length q) few narrow roomQ), le-ltb (length r) (n * n) square-in)
+      rw (le-ltb 64 rows few, le-ltb 80 n narrow, le-ltb (length m) (rows * n) long, le-ltb (length q) (rows * n) (fits-in rows n (length q) (omega arith) narrow roomQ), le-ltb (length r) (n * n) square-in)
 
   abbrev found : ℕ
   found = rankOf (decomposedOf rows n m)
-
-  basis-past : (t : Bool) (v r₁ : List Float) → r₁ ≡ cond t r (v ++ drop ((n - found) * n) r) → length r₁ ≡ length r → drop (n * n) r₁ ≡ drop (n * n) r
-  basis-past true v r₁ e l = ap (drop (n * n)) e
-  basis-past false v r₁ e l = past v r r₁ ((n - found) * n) (n * n) e l (mul-le-mul-right n (omega arith)) square-in
 
   pub ranks : (s : NullSpace) (q₁ r₁ zp zr : List Float) → Spans rows n m q r q₁ r₁ s → length r₁ ≡ length r → zp ≡ replicate (length (take (rows * n) p)) zero⁺
       → zr ≡ replicate (length (take (n * n) r₁)) zero⁺ → Ranks rows n p q r (zp ++ drop (rows * n) p) q₁ (zr ++ drop (n * n) r₁) s
@@ -130,18 +133,19 @@ module _ (rows n : ℕ) (p q r : List Float) (few : rows ≤ 80) (narrow : n ≤
     work = t .work ∙ checked-is q q (zeroed (rows * n) q);
     basis =
         filled (n * n) r₁ zr (rw l square-in) er
-        ∙ ap (λ d. replicate (n * n) zero⁺ ++ d) (basis-past (ltb 64 rows) (vectorsOf rows n m) r₁ (t .output ∙ checked-is r r (vectorsOf rows n m ++ drop ((n - found) * n) r)) l);
+        ∙ ap (λ d. replicate (n * n) zero⁺ ++ d) (past (vectorsOf rows n m) r r₁ ((n - found) * n) (n * n) (t .output ∙ checked-is r r _) l (mul-le-mul-right n (omega arith)) square-in);
   }
 
 -- ---- the whole
 
-freed-is : (t : Bool) (n k : ℕ) → freedBy n (cond t NullSpace.TooMany (NullSpace.Rank k)) ≡ cond t Degrees.TooMany (Degrees.Of (n - k))
-freed-is true n k = refl
-freed-is false n k = refl
-
 module _ (b : Build) (f : Frame) (x p q r : List Float) where
   pub refused : short p q r ≡ true → Frees b f x p q r p q r Degrees.TooShort
-  refused h = record { answer = rw h; jacobian = rw h; work = rw h; basis = rw h }
+  refused h = record { answer = rw h; meaning = rw h; jacobian = rw h; work = rw h; basis = rw h }
+
+  pub refused-rows : (n : ℕ) → short p q r ≡ false → n ≡ rowCount (b .equations) (numbersOf (f .equations)) → 64 < n → Frees b f x p q r p q r Degrees.TooManyRows
+  refused-rows n h e k =
+      let o : overRows b f ≡ true = rw (← e) (lt-ltb 64 n k) in
+      record { answer = rw (h, o); meaning = rw (h, o); jacobian = rw (h, o); work = rw (h, o); basis = rw (h, o) }
 
   module _ (nf rows : ℕ) (p₁ p₂ q₂ r₂ : List Float) (s : NullSpace) (free : nf ≡ length (indicesOf (f .free))) (t : Lays b f nf x p p₁ rows)
       (u : Ranks rows nf p₁ q r p₂ q₂ r₂ s) where
@@ -151,14 +155,30 @@ module _ (b : Build) (f : Frame) (x p q r : List Float) where
     past-head : drop (rows * nf) p₁ ≡ drop (rows * nf) p
     past-head = ap (drop (rows * nf)) (t .laid) ∙ drop-at (gradientsOf b f x) (drop (rows * nf) p) (rows * nf) (t .long)
 
-    over : cond (ltb 64 rows) Degrees.TooMany (Degrees.Of (nf - rankOf (decomposedOf rows nf (take (rows * nf) p₁)))) ≡ cond (overRows b f) Degrees.TooMany (Degrees.Of (freedomOf b f x))
+    freedom-is : nf - rankOf (decomposedOf rows nf (take (rows * nf) p₁)) ≡ freedomOf b f x
     unfolding freedomOf
-    over = rw (at-head, t .counted, free)
+    freedom-is = rw (at-head, t .counted, free)
 
-    pub frees : (d : Degrees) → d ≡ freedBy nf s → short p q r ≡ false → Frees b f x p q r p₂ q₂ r₂ d
-    frees d e h = record {
-      answer = rw h (e ∙ ap (freedBy nf) (u .answer) ∙ freed-is (ltb 64 rows) nf _ ∙ over);
-      jacobian = rw h (u .matrix ∙ ap (λ l. replicate (rows * nf) zero⁺ ++ l) past-head ∙ rw (t .counted, free));
-      work = rw h (u .work ∙ rw (t .counted, free));
-      basis = rw h (u .basis ∙ rw free);
-    }
+    pub frees : (d : Degrees) → d ≡ freedBy nf s → short p q r ≡ false → rowCount (b .equations) (numbersOf (f .equations)) ≤ 64 → Frees b f x p q r p₂ q₂ r₂ d
+    frees d e h k =
+        let o : overRows b f ≡ false = le-ltb 64 _ k in
+        let is : d ≡ Degrees.Of (freedomOf b f x) = e ∙ ap (freedBy nf) (u .answer) ∙ ap Degrees.Of freedom-is in
+        record {
+          answer = rw (h, o) is;
+          meaning = rw (h, o) (ap meaningOf is);
+          jacobian = rw (h, o) (u .matrix ∙ ap (λ l. replicate (rows * nf) zero⁺ ++ l) past-head ∙ rw (t .counted, free));
+          work = rw (h, o) (u .work ∙ rw (t .counted, free));
+          basis = rw (h, o) (u .basis ∙ rw free);
+        }
+
+-- ---- counting the rows
+
+module _ (es : List Active) (l : Listed) (n i rows : ℕ) (e : n ≡ length (numbersOf l)) (h : i < n) (R : ℕ) (t : fold (moreRows es) rows (drop i (numbersOf l)) ≡ R) where
+  pub more-rows : (r : ℕ) (q : Equation) → r ≡ rowsOf q → q ≡ equationAt es (getD (l .items) i 0) → fold (moreRows es) (rows + r) (drop (i + 1) (numbersOf l)) ≡ R
+  unfolding moreRows
+  more-rows r q a b = turn-next l n i e (moreRows es) rows (rows + r) R h (ap (λ m. rows + m) (a ∙ ap rowsOf b)) t
+
+  -- past the last equation there is `Held`
+  pub no-row : length es ≤ getD (l .items) i 0 → fold (moreRows es) rows (drop (i + 1) (numbersOf l)) ≡ R
+  unfolding rowsOf
+  no-row past = (rw add-zero at (more-rows 0 Equation.Held refl (held es _ past)))

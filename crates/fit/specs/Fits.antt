@@ -9,6 +9,7 @@ use lib.Ieee.{Float}
 use lib.ListN.{length, take, drop, set, replicate}
 use Rattle.floats.specs.Only.{only-answer}
 use Rattle.floats.specs.Ops.{zero⁺}
+use Rattle.loops.specs.Numbers.{Meaning, refused, values, tooShort, tooManyRows}
 use Rattle.loops.specs.Turns.{fold}
 use Rattle.members.specs.Lists.{numbersOf, withoutOf}
 use Rattle.members.specs.Movable.{indicesOf}
@@ -91,11 +92,21 @@ freedomOf b f x =
 abbrev pub overRows : Build → Frame → Bool
 overRows b f = ltb 64 (rowCount (b .equations) (numbersOf (f .equations)))
 
+-- 01's numbers for the call, in 01's order: 9, then 6
+abbrev pub meaningOf : Degrees → Meaning ℕ
+meaningOf (Degrees.Of n) = values n
+meaningOf Degrees.TooShort = refused tooShort
+meaningOf Degrees.TooManyRows = refused tooManyRows
+
+abbrev pub checked : {A : Type 0} → Build → Frame → List Float → List Float → List Float → A → A → A → A
+checked b f p q r nine six done = cond (short p q r) nine (cond (overRows b f) six done)
+
 pub record Frees (b : Build) (f : Frame) (x p q r p′ q′ r′ : List Float) (t : Degrees) : Type 0 where
-  pub answer : t ≡ cond (short p q r) Degrees.TooShort (cond (overRows b f) Degrees.TooMany (Degrees.Of (freedomOf b f x)))
-  pub jacobian : p′ ≡ cond (short p q r) p (zeroed (wide b f (numbersOf (f .equations))) p)
-  pub work : q′ ≡ cond (short p q r) q (cond (overRows b f) q (zeroed (wide b f (numbersOf (f .equations))) q))
-  pub basis : r′ ≡ cond (short p q r) r (zeroed (length (indicesOf (f .free)) * length (indicesOf (f .free))) r)
+  pub answer : t ≡ checked b f p q r Degrees.TooShort Degrees.TooManyRows (Degrees.Of (freedomOf b f x))
+  pub meaning : meaningOf t ≡ checked b f p q r (refused tooShort) (refused tooManyRows) (values (freedomOf b f x))
+  pub jacobian : p′ ≡ checked b f p q r p p (zeroed (wide b f (numbersOf (f .equations))) p)
+  pub work : q′ ≡ checked b f p q r q q (zeroed (wide b f (numbersOf (f .equations))) q)
+  pub basis : r′ ≡ checked b f p q r r r (zeroed (length (indicesOf (f .free)) * length (indicesOf (f .free))) r)
 
 -- the gradients at the head of an area, and how many rows they are
 pub record Lays (b : Build) (f : Frame) (nf : ℕ) (x p p′ : List Float) (rows : ℕ) : Type 0 where
@@ -104,16 +115,16 @@ pub record Lays (b : Build) (f : Frame) (nf : ℕ) (x p p′ : List Float) (rows
   pub long : length (gradientsOf b f x) ≡ rows * nf
   pub laid : p′ ≡ gradientsOf b f x ++ drop (rows * nf) p
 
--- the rank of the matrix of `rows` rows and `n` columns at the head of p
+-- the rank of the matrix of `rows` rows, 64 at most, and `n` columns at the head of p
 pub record Ranks (rows n : ℕ) (p q r p′ q′ r′ : List Float) (s : NullSpace) : Type 0 where
-  pub answer : s ≡ cond (ltb 64 rows) NullSpace.TooMany (NullSpace.Rank (rankOf (decomposedOf rows n (take (rows * n) p))))
+  pub answer : s ≡ NullSpace.Rank (rankOf (decomposedOf rows n (take (rows * n) p)))
   pub matrix : p′ ≡ zeroed (rows * n) p
-  pub work : q′ ≡ cond (ltb 64 rows) q (zeroed (rows * n) q)
+  pub work : q′ ≡ zeroed (rows * n) q
   pub basis : r′ ≡ zeroed (n * n) r
 
 abbrev pub freedBy : ℕ → NullSpace → Degrees
 freedBy n (NullSpace.Rank k) = Degrees.Of (n - k)
-freedBy n NullSpace.TooMany = Degrees.TooMany
+freedBy n NullSpace.TooMany = Degrees.TooManyRows
 freedBy n NullSpace.TooShort = Degrees.TooShort
 
 -- ---- the suspects: `conflicts`
@@ -156,8 +167,13 @@ pub record Suspects (b : Build) (f : Frame) (p q r p′ q′ r′ : List Float) 
   pub product : q′ ≡ fold (productLeft b f) q (numbersOf (f .equations))
   pub copy : r′ ≡ fold (productLeft b f) r (numbersOf (f .equations))
 
+-- 9 where an area is too short, or the marks
+abbrev pub markedOf : Marked → Meaning (List Bool)
+markedOf t = cond (t .short) (refused tooShort) (values (t .marks))
+
 pub record Marks (b : Build) (f : Frame) (p q r p′ q′ r′ : List Float) (t : Marked) : Type 0 where
   pub answer : t ≡ cond (short p q r) (record { short = true; marks = replicate 40 false }) (record { short = false; marks = suspectsOf b f })
+  pub meaning : markedOf t ≡ cond (short p q r) (refused tooShort) (values (suspectsOf b f))
   pub jacobian : p′ ≡ cond (short p q r) p (fold (jacobianLeft b f) p (numbersOf (f .equations)))
   pub product : q′ ≡ cond (short p q r) q (fold (productLeft b f) q (numbersOf (f .equations)))
   pub copy : r′ ≡ cond (short p q r) r (fold (productLeft b f) r (numbersOf (f .equations)))

@@ -29,13 +29,13 @@ pub struct Fitted {
     pub x: [f64; 80],
 }
 
-// What the freedom of a group comes to.
+// What the freedom of a group comes to. A refusal changes nothing that is lent.
 pub enum Degrees {
     Of(usize),
-    // 3: more than 64 rows.
-    TooMany,
     // 9: a work area shorter than 6,400.
     TooShort,
+    // 6: more than 64 rows.
+    TooManyRows,
 }
 
 // Whether each equation is a suspect; `short` is 9, a work area shorter than 6,400.

@@ -4,6 +4,7 @@ ghost use Prim.Native.Nat.{_-_, _≤_};
 ghost use lib.ListN.{length};
 ghost use Rattle.members.specs.Lists.{numbersOf};
 ghost use Rattle.members.specs.Movable.{indicesOf};
+ghost use Rattle.rounds.specs.Problem.{rowCount};
 ghost use Rattle.fit.specs.Fits.{Frees, Lays, Ranks, freedBy};
 use crate::Degrees;
 use crate::Frame;
@@ -26,6 +27,28 @@ fn held(f: Coordinates) -> usize
     smaller(f.count, 80)
 }
 
+// How many rows the frame's own equations have.
+fn row_count(b: Build, f: Frame) -> usize
+    ensures { λ n. ⌜ n ≡ rowCount (b .equations) (numbersOf (f .equations)) ⌝ }
+{
+    let own = f.equations;
+    let items = own.items;
+    let equations = b.equations;
+    let n = numbers(own);
+    let mut rows = 0;
+    for i in 0..n {
+        let k = items[i];
+        // Past the end there is `Held`, which has no row.
+        if 40 <= k {
+            continue;
+        }
+        let a = equations[k];
+        let e = a.equation;
+        rows = rows + sketch::rows(e);
+    }
+    rows
+}
+
 // The gradients of the frame's own equations at x, at the head of p, and how many rows they are.
 fn lay(b: Build, f: Frame, nf: usize, x: &[f64], p: &mut [f64]) -> usize
     requires { ⌜ (nf ≡ length (indicesOf (f .free))) × (nf ≤ 80) × (6400 ≤ length (now p)) ⌝ }
@@ -43,7 +66,7 @@ fn lay(b: Build, f: Frame, nf: usize, x: &[f64], p: &mut [f64]) -> usize
 
 // The rank of the matrix at the head of p. What the three areas held of it is +0.0 afterwards.
 fn rank(rows: usize, nf: usize, p: &mut [f64], q: &mut [f64], r: &mut [f64]) -> NullSpace
-    requires { ⌜ (rows ≤ 80) × (nf ≤ 80) × (6400 ≤ length (now p)) × (6400 ≤ length (now q)) × (6400 ≤ length (now r)) ⌝ }
+    requires { ⌜ (rows ≤ 64) × (nf ≤ 80) × (6400 ≤ length (now p)) × (6400 ≤ length (now q)) × (6400 ≤ length (now r)) ⌝ }
     ensures { λ s. ⌜ Ranks rows nf (now (p .entry)) (now (q .entry)) (now (r .entry)) (now (p .exit)) (now (q .exit)) (now (r .exit)) s ⌝ }
 {
     let size = rows * nf;
@@ -67,12 +90,13 @@ fn freed(nf: usize, s: NullSpace) -> Degrees
 {
     match s {
         NullSpace::Rank(k) => Degrees::Of(less(nf, k)),
-        NullSpace::TooMany => Degrees::TooMany,
+        NullSpace::TooMany => Degrees::TooManyRows,
         NullSpace::TooShort => Degrees::TooShort,
     }
 }
 
-// The Jacobian lies in p; q and r are null space's working room and output.
+// Free coordinates minus rank at x, of the frame's own equations. The Jacobian lies in p; q and r are null space's working room and
+// output.
 pub fn freedom(
     b: Build,
     f: Frame,
@@ -85,6 +109,9 @@ pub fn freedom(
 {
     if (p.len() < 6400) | (q.len() < 6400) | (r.len() < 6400) {
         return Degrees::TooShort;
+    }
+    if 64 < row_count(b, f) {
+        return Degrees::TooManyRows;
     }
     let free = f.free;
     let nf = held(free);

@@ -2,7 +2,7 @@
 use Prim.Native.Nat.{ℕ, _≤_, min}
 use mathlib.Core.Bool.{true, false}
 use mathlib.Core.List.{List}
-use mathlib.Core.Path.{_≡_, _∙_}
+use mathlib.Core.Path.{_≡_, ap, _∙_}
 use lib.Dec.{lit≤}
 use lib.Ieee.{Float}
 use lib.ListN.{length, take}
@@ -16,12 +16,14 @@ use Rattle.fit.specs.declared.Marked.{Marked}
 use Rattle.groups.specs.Listed.{groupingOf}
 use Rattle.groups.specs.declared.Grouping.{Grouping}
 use Rattle.rounds.specs.Promise.{zeroed}
+use Rattle.sketch.specs.Check.{numberOf}
 use Rattle.sketch.specs.declared.Build.{Build}
 use Rattle.sketch.specs.declared.Checked.the-variants.{Passes, Ends}
 use Rattle.sketch.specs.declared.Ending.{Ending}
 use Rattle.job.specs.Groups.{fits, fails, resultOf, lowestOf, groupsFrom, begin, answerBy, outputBy, fitOf}
-use Rattle.job.specs.Promise.{verdict, Does}
+use Rattle.job.specs.Promise.{verdict, answerAfter, numberIn, Does}
 use Rattle.job.specs.declared.Went.{Went}
+use Rattle.job.proofs.Numbered.{number-is}
 
 pub failing-is : (b : Build) (gr : Grouping) (g i t : ℕ) (f : Frame) (low : ℕ) (m : Marked) (p q r p′ q′ r′ : List Float) (a : Answer) → f ≡ frameOf (b .points) gr g
     → short p q r ≡ false → Marks b f p q r p′ q′ r′ m → low ≡ lowestOf f → a ≡ failedOf (record { lowest = low; freedom = 0; iterations = i; tries = t }) (m .marks)
@@ -47,12 +49,15 @@ module _ (b : Build) (gr : Grouping) (n : ℕ) (w : Went) (e : gr ≡ groupingOf
       (rw (← g, ← e) q, rw (← g) o)
 
 module _ (b : Build) (out p q r : List Float) where
+  numbered : (a : Answer) → a ≡ answerAfter b (verdict b out p q r) → numberOf (a .ending) ≡ numberIn b (length out) (length p) (length q) (length r)
+  numbered a e = ap (λ (t : Answer). numberOf (t .ending)) e ∙ number-is b (length out) (length p) (length q) (length r)
+
   pub does-refuse : (e : Ending) (a : Answer) → verdict b out p q r ≡ Ends e → a ≡ refusedOf e → Does b out p q r out p q r a
-  does-refuse e a v h = record { answer = rw v h; output = rw v; first = rw v; second = rw v; third = rw v }
+  does-refuse e a v h = record { answer = rw v h; number = numbered a (rw v h); output = rw v; first = rw v; second = rw v; third = rw v }
 
   pub does-fit : (out′ p′ q′ r′ : List Float) (a : Answer) → verdict b out p q r ≡ Passes → a ≡ answerBy b (groupingOf b) (fitOf b)
       → out′ ≡ outputBy b (groupingOf b) (fitOf b) out → p′ ≡ zeroed 8192 p → q′ ≡ zeroed 8192 q → r′ ≡ zeroed 8192 r → Does b out p q r out′ p′ q′ r′ a
-  does-fit out′ p′ q′ r′ a v h o ep eq er = record { answer = rw v h; output = rw v o; first = rw v ep; second = rw v eq; third = rw v er }
+  does-fit out′ p′ q′ r′ a v h o ep eq er = record { answer = rw v h; number = numbered a (rw v h); output = rw v o; first = rw v ep; second = rw v eq; third = rw v er }
 
 -- a lent front of 8,192 places has the room that a fit takes
 pub long : (a : List Float) → 8192 ≤ length a → 6400 ≤ length (take 8192 a)

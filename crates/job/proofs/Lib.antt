@@ -4,6 +4,7 @@
 --     Freeing    the freedom of a group and of the points in no group
 --     Stepping   one group, and the groups one after another
 --     Handing    what is handed out
+--     Numbered   the number of an answer
 --     Ending     the answers
 --     Few        there are at most 40 groups
 --     Rowed      no group of a build that passes has more than 64 rows
@@ -13,6 +14,7 @@ pub mod Refusing
 pub mod Freeing
 pub mod Stepping
 pub mod Handing
+pub mod Numbered
 pub mod Ending
 pub mod Few
 pub mod Rowed

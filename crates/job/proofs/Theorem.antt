@@ -1,13 +1,13 @@
--- Each of document 01's numbers that a job on a build ends in is given exactly when its own row of the table holds and no row before
--- it does, in 01's order: 3, 9, 4, 5, 6, 7; 0 exactly when none does; and 1 and 2, which come from text, never. Where a group fails,
--- it is the lowest that does. A job that is not fitted leaves its output as it was. Assumes nothing.
-use Prim.Native.Nat.{ℕ, zero, suc, _+_, _≤_, _<_}
-use mathlib.Core.Bool.{Bool, true, false, cond}
+-- `given-exactly`, `lowest-fails` and `hands-out-nothing` (specs/Given.antt). Assumes nothing.
+use Prim.Native.Nat.{ℕ, zero, suc, _+_, _*_, _≤_, _<_}
+use mathlib.Core.Bool.{Bool, true, false, cond, _||_}
 use mathlib.Core.List.{List}
-use mathlib.Core.Logic.{_↔_, _≢_}
+use mathlib.Core.Logic.{_↔_, _⊎_, inl, inr, _≢_}
 use mathlib.Core.Path.{_≡_, refl, sym, _∙_}
 use native.Mathlib.Decide.{decLt}
 use native.Mathlib.Omega.{arith}
+use borrow.Author.Tests.{lt-ltb, ltb-true}
+use lib.Dec.{ltb}
 use lib.Ieee.{Float}
 use lib.ListN.{length}
 use Rattle.fit.specs.Fits.{converges, padded}
@@ -16,14 +16,13 @@ use Rattle.groups.specs.Listed.{groupingOf}
 use Rattle.groups.specs.declared.Grouping.{Grouping}
 use Rattle.rounds.specs.Solve.{Outcome, converged, failed}
 use Rattle.sketch.specs.Check.{checkOf, ordered, overBound, outOfBounds, refersToNothing, overRows}
+use Rattle.sketch.specs.Rows.{rowsOfBuild}
 use Rattle.sketch.specs.declared.Build.{Build}
-use Rattle.sketch.specs.declared.Checked.{Checked}
-use Rattle.sketch.specs.declared.Checked.the-variants.{Passes, Ends}
+use Rattle.sketch.specs.declared.Checked.the-variants.{Ends}
 use Rattle.sketch.specs.declared.Ending.{Ending}
-use Rattle.sketch.specs.declared.Ending.the-variants.{Fitted, TooLong, BadForm, TooMany, OutOfBounds, NoSuchItem, TooManyRows, NotConverged, TooShort}
-use Rattle.job.specs.Given.{endingOf, fitsAt, SomeFails, AllFit, Sound}
-use Rattle.job.specs.Groups.{Result, fits, fails, takenOf, outcomeAt, frameIn, stepOf, groupsFrom, groupCount, begin, fitOf, answerBy, outputBy}
-use Rattle.job.specs.Promise.{noRoom, verdictOf, verdict, answerAfter, outputAfter}
+use Rattle.job.specs.Given.{TooMany, TooShort, fitsAt, SomeFails, AllFit, Sound, GivenExactly, LowestFails, HandsOutNothing}
+use Rattle.job.specs.Groups.{Result, fits, fails, takenOf, outcomeAt, frameIn, stepOf, groupsFrom, groupCount, begin, fitOf, outputBy}
+use Rattle.job.specs.Promise.{noRoom, verdictOf, outputAfter, unfit, firstRow}
 use Rattle.job.specs.declared.Doing.{Doing}
 use Rattle.job.proofs.Few.{all-counted}
 
@@ -97,130 +96,123 @@ module _ (b : Build) (gr : Grouping) where
 
 -- ---- the order
 
-abbrev unfit : Result → Bool
-unfit (fits d) = false
-unfit (fails g i t) = true
+third : (o n u m r f : Bool) → firstRow o n u m r f ≡ 3 ↔ o ≡ true
+third true n u m r f = (λ h. cc, λ h. cc)
+third false true u m r f = (λ h. cc, λ h. cc)
+third false false true m r f = (λ h. cc, λ h. cc)
+third false false false true r f = (λ h. cc, λ h. cc)
+third false false false false true f = (λ h. cc, λ h. cc)
+third false false false false false true = (λ h. cc, λ h. cc)
+third false false false false false false = (λ h. cc, λ h. cc)
 
--- the first row that holds decides
-abbrev ended : Checked → Result → Ending
-ended (Ends e) R = e
-ended Passes (fits d) = Fitted
-ended Passes (fails g i t) = NotConverged
+ninth : (o n u m r f : Bool) → firstRow o n u m r f ≡ 9 ↔ (o ≡ false) × (n ≡ true)
+ninth true n u m r f = (λ h. (cc, cc), λ h. cc)
+ninth false true u m r f = (λ h. (cc, cc), λ h. cc)
+ninth false false true m r f = (λ h. (cc, cc), λ h. cc)
+ninth false false false true r f = (λ h. (cc, cc), λ h. cc)
+ninth false false false false true f = (λ h. (cc, cc), λ h. cc)
+ninth false false false false false true = (λ h. (cc, cc), λ h. cc)
+ninth false false false false false false = (λ h. (cc, cc), λ h. cc)
 
-abbrev judged : Bool → Bool → Bool → Bool → Bool → Result → Ending
-judged o n u m r R = ended (cond o (Ends TooMany) (cond n (Ends TooShort) (ordered o u m r))) R
+fourth : (o n u m r f : Bool) → firstRow o n u m r f ≡ 4 ↔ (o ≡ false) × (n ≡ false) × (u ≡ true)
+fourth true n u m r f = (λ h. (cc, cc, cc), λ h. cc)
+fourth false true u m r f = (λ h. (cc, cc, cc), λ h. cc)
+fourth false false true m r f = (λ h. (cc, cc, cc), λ h. cc)
+fourth false false false true r f = (λ h. (cc, cc, cc), λ h. cc)
+fourth false false false false true f = (λ h. (cc, cc, cc), λ h. cc)
+fourth false false false false false true = (λ h. (cc, cc, cc), λ h. cc)
+fourth false false false false false false = (λ h. (cc, cc, cc), λ h. cc)
 
-third : (o n u m r : Bool) (R : Result) → judged o n u m r R ≡ TooMany ↔ o ≡ true
-third true n u m r R = (λ h. cc, λ h. cc)
-third false true u m r R = (λ h. cc, λ h. cc)
-third false false true m r R = (λ h. cc, λ h. cc)
-third false false false true r R = (λ h. cc, λ h. cc)
-third false false false false true R = (λ h. cc, λ h. cc)
-third false false false false false (fits d) = (λ h. cc, λ h. cc)
-third false false false false false (fails g i t) = (λ h. cc, λ h. cc)
+fifth : (o n u m r f : Bool) → firstRow o n u m r f ≡ 5 ↔ (o ≡ false) × (n ≡ false) × (u ≡ false) × (m ≡ true)
+fifth true n u m r f = (λ h. (cc, cc, cc, cc), λ h. cc)
+fifth false true u m r f = (λ h. (cc, cc, cc, cc), λ h. cc)
+fifth false false true m r f = (λ h. (cc, cc, cc, cc), λ h. cc)
+fifth false false false true r f = (λ h. (cc, cc, cc, cc), λ h. cc)
+fifth false false false false true f = (λ h. (cc, cc, cc, cc), λ h. cc)
+fifth false false false false false true = (λ h. (cc, cc, cc, cc), λ h. cc)
+fifth false false false false false false = (λ h. (cc, cc, cc, cc), λ h. cc)
 
-ninth : (o n u m r : Bool) (R : Result) → judged o n u m r R ≡ TooShort ↔ (o ≡ false) × (n ≡ true)
-ninth true n u m r R = (λ h. (cc, cc), λ h. cc)
-ninth false true u m r R = (λ h. (cc, cc), λ h. cc)
-ninth false false true m r R = (λ h. (cc, cc), λ h. cc)
-ninth false false false true r R = (λ h. (cc, cc), λ h. cc)
-ninth false false false false true R = (λ h. (cc, cc), λ h. cc)
-ninth false false false false false (fits d) = (λ h. (cc, cc), λ h. cc)
-ninth false false false false false (fails g i t) = (λ h. (cc, cc), λ h. cc)
+sixth : (o n u m r f : Bool) → firstRow o n u m r f ≡ 6 ↔ (o ≡ false) × (n ≡ false) × (u ≡ false) × (m ≡ false) × (r ≡ true)
+sixth true n u m r f = (λ h. (cc, cc, cc, cc, cc), λ h. cc)
+sixth false true u m r f = (λ h. (cc, cc, cc, cc, cc), λ h. cc)
+sixth false false true m r f = (λ h. (cc, cc, cc, cc, cc), λ h. cc)
+sixth false false false true r f = (λ h. (cc, cc, cc, cc, cc), λ h. cc)
+sixth false false false false true f = (λ h. (cc, cc, cc, cc, cc), λ h. cc)
+sixth false false false false false true = (λ h. (cc, cc, cc, cc, cc), λ h. cc)
+sixth false false false false false false = (λ h. (cc, cc, cc, cc, cc), λ h. cc)
 
-fourth : (o n u m r : Bool) (R : Result) → judged o n u m r R ≡ OutOfBounds ↔ (o ≡ false) × (n ≡ false) × (u ≡ true)
-fourth true n u m r R = (λ h. (cc, cc, cc), λ h. cc)
-fourth false true u m r R = (λ h. (cc, cc, cc), λ h. cc)
-fourth false false true m r R = (λ h. (cc, cc, cc), λ h. cc)
-fourth false false false true r R = (λ h. (cc, cc, cc), λ h. cc)
-fourth false false false false true R = (λ h. (cc, cc, cc), λ h. cc)
-fourth false false false false false (fits d) = (λ h. (cc, cc, cc), λ h. cc)
-fourth false false false false false (fails g i t) = (λ h. (cc, cc, cc), λ h. cc)
+seventh : (o n u m r f : Bool) → firstRow o n u m r f ≡ 7 ↔ (o ≡ false) × (n ≡ false) × (u ≡ false) × (m ≡ false) × (r ≡ false) × (f ≡ true)
+seventh true n u m r f = (λ h. (cc, cc, cc, cc, cc, cc), λ h. cc)
+seventh false true u m r f = (λ h. (cc, cc, cc, cc, cc, cc), λ h. cc)
+seventh false false true m r f = (λ h. (cc, cc, cc, cc, cc, cc), λ h. cc)
+seventh false false false true r f = (λ h. (cc, cc, cc, cc, cc, cc), λ h. cc)
+seventh false false false false true f = (λ h. (cc, cc, cc, cc, cc, cc), λ h. cc)
+seventh false false false false false true = (λ h. (cc, cc, cc, cc, cc, cc), λ h. cc)
+seventh false false false false false false = (λ h. (cc, cc, cc, cc, cc, cc), λ h. cc)
 
-fifth : (o n u m r : Bool) (R : Result) → judged o n u m r R ≡ NoSuchItem ↔ (o ≡ false) × (n ≡ false) × (u ≡ false) × (m ≡ true)
-fifth true n u m r R = (λ h. (cc, cc, cc, cc), λ h. cc)
-fifth false true u m r R = (λ h. (cc, cc, cc, cc), λ h. cc)
-fifth false false true m r R = (λ h. (cc, cc, cc, cc), λ h. cc)
-fifth false false false true r R = (λ h. (cc, cc, cc, cc), λ h. cc)
-fifth false false false false true R = (λ h. (cc, cc, cc, cc), λ h. cc)
-fifth false false false false false (fits d) = (λ h. (cc, cc, cc, cc), λ h. cc)
-fifth false false false false false (fails g i t) = (λ h. (cc, cc, cc, cc), λ h. cc)
+noughth : (o n u m r f : Bool) → firstRow o n u m r f ≡ 0 ↔ (o ≡ false) × (n ≡ false) × (u ≡ false) × (m ≡ false) × (r ≡ false) × (f ≡ false)
+noughth true n u m r f = (λ h. (cc, cc, cc, cc, cc, cc), λ h. cc)
+noughth false true u m r f = (λ h. (cc, cc, cc, cc, cc, cc), λ h. cc)
+noughth false false true m r f = (λ h. (cc, cc, cc, cc, cc, cc), λ h. cc)
+noughth false false false true r f = (λ h. (cc, cc, cc, cc, cc, cc), λ h. cc)
+noughth false false false false true f = (λ h. (cc, cc, cc, cc, cc, cc), λ h. cc)
+noughth false false false false false true = (λ h. (cc, cc, cc, cc, cc, cc), λ h. cc)
+noughth false false false false false false = (λ h. (cc, cc, cc, cc, cc, cc), λ h. cc)
 
-sixth : (o n u m r : Bool) (R : Result) → judged o n u m r R ≡ TooManyRows ↔ (o ≡ false) × (n ≡ false) × (u ≡ false) × (m ≡ false) × (r ≡ true)
-sixth true n u m r R = (λ h. (cc, cc, cc, cc, cc), λ h. cc)
-sixth false true u m r R = (λ h. (cc, cc, cc, cc, cc), λ h. cc)
-sixth false false true m r R = (λ h. (cc, cc, cc, cc, cc), λ h. cc)
-sixth false false false true r R = (λ h. (cc, cc, cc, cc, cc), λ h. cc)
-sixth false false false false true R = (λ h. (cc, cc, cc, cc, cc), λ h. cc)
-sixth false false false false false (fits d) = (λ h. (cc, cc, cc, cc, cc), λ h. cc)
-sixth false false false false false (fails g i t) = (λ h. (cc, cc, cc, cc, cc), λ h. cc)
-
-seventh : (o n u m r : Bool) (R : Result) → judged o n u m r R ≡ NotConverged ↔ (o ≡ false) × (n ≡ false) × (u ≡ false) × (m ≡ false) × (r ≡ false) × (unfit R ≡ true)
-seventh true n u m r R = (λ h. (cc, cc, cc, cc, cc, cc), λ h. cc)
-seventh false true u m r R = (λ h. (cc, cc, cc, cc, cc, cc), λ h. cc)
-seventh false false true m r R = (λ h. (cc, cc, cc, cc, cc, cc), λ h. cc)
-seventh false false false true r R = (λ h. (cc, cc, cc, cc, cc, cc), λ h. cc)
-seventh false false false false true R = (λ h. (cc, cc, cc, cc, cc, cc), λ h. cc)
-seventh false false false false false (fits d) = (λ h. (cc, cc, cc, cc, cc, cc), λ h. cc)
-seventh false false false false false (fails g i t) = (λ h. (cc, cc, cc, cc, cc, cc), λ h. cc)
-
-noughth : (o n u m r : Bool) (R : Result) → judged o n u m r R ≡ Fitted ↔ (o ≡ false) × (n ≡ false) × (u ≡ false) × (m ≡ false) × (r ≡ false) × (unfit R ≡ false)
-noughth true n u m r R = (λ h. (cc, cc, cc, cc, cc, cc), λ h. cc)
-noughth false true u m r R = (λ h. (cc, cc, cc, cc, cc, cc), λ h. cc)
-noughth false false true m r R = (λ h. (cc, cc, cc, cc, cc, cc), λ h. cc)
-noughth false false false true r R = (λ h. (cc, cc, cc, cc, cc, cc), λ h. cc)
-noughth false false false false true R = (λ h. (cc, cc, cc, cc, cc, cc), λ h. cc)
-noughth false false false false false (fits d) = (λ h. (cc, cc, cc, cc, cc, cc), λ h. cc)
-noughth false false false false false (fails g i t) = (λ h. (cc, cc, cc, cc, cc, cc), λ h. cc)
-
--- 1 and 2
-abbrev pub ofText : Ending → Bool
-ofText Fitted = false
-ofText TooLong = true
-ofText BadForm = true
-ofText TooMany = false
-ofText OutOfBounds = false
-ofText NoSuchItem = false
-ofText TooManyRows = false
-ofText NotConverged = false
-ofText TooShort = false
-
-not-text : (o n u m r : Bool) (R : Result) → ofText (judged o n u m r R) ≡ false
-not-text true n u m r R = refl
-not-text false true u m r R = refl
-not-text false false true m r R = refl
-not-text false false false true r R = refl
-not-text false false false false true R = refl
-not-text false false false false false (fits d) = refl
-not-text false false false false false (fails g i t) = refl
+-- 1 and 2 are no row's
+not-text : (o n u m r f : Bool) → (firstRow o n u m r f ≢ 1) × (firstRow o n u m r f ≢ 2)
+not-text true n u m r f = (λ h. absurd (omega arith), λ h. absurd (omega arith))
+not-text false true u m r f = (λ h. absurd (omega arith), λ h. absurd (omega arith))
+not-text false false true m r f = (λ h. absurd (omega arith), λ h. absurd (omega arith))
+not-text false false false true r f = (λ h. absurd (omega arith), λ h. absurd (omega arith))
+not-text false false false false true f = (λ h. absurd (omega arith), λ h. absurd (omega arith))
+not-text false false false false false true = (λ h. absurd (omega arith), λ h. absurd (omega arith))
+not-text false false false false false false = (λ h. absurd (omega arith), λ h. absurd (omega arith))
 
 -- ---- the numbers
 
+-- one of four tests holds, in words
+four-of : {A B C D : Type 0} (p q r s : Bool) → (p ≡ true ↔ A) → (q ≡ true ↔ B) → (r ≡ true ↔ C) → (s ≡ true ↔ D) → p || q || r || s ≡ true ↔ A ⊎ B ⊎ C ⊎ D
+four-of true q r s a b c d = (λ h. inl (a .0 refl), λ h. refl)
+four-of false true r s a b c d = (λ h. inr (inl (b .0 refl)), λ h. refl)
+four-of false false true s a b c d = (λ h. inr (inr (inl (c .0 refl))), λ h. refl)
+four-of {A} {B} {C} {D} false false false s a b c d = (λ h. inr (inr (inr (d .0 h))), last)
+  where
+    last : A ⊎ B ⊎ C ⊎ D → s ≡ true
+    last (inl h) = let f : _≡_ {A = Bool} false true = a .1 h in cc
+    last (inr (inl h)) = let f : _≡_ {A = Bool} false true = b .1 h in cc
+    last (inr (inr (inl h))) = let f : _≡_ {A = Bool} false true = c .1 h in cc
+    last (inr (inr (inr h))) = d .1 h
+
+less : (m n : ℕ) → ltb m n ≡ true ↔ m < n
+less m n = (ltb-true m n, lt-ltb m n)
+
 module _ (b : Build) where
-  shown : (R : Result) → answerBy b (groupingOf b) R .ending ≡ ended Passes R
-  shown (fits d) = refl
-  shown (fails g i t) = refl
+  too-many : overBound b ≡ true ↔ TooMany b
+  too-many = four-of _ _ _ _ (less 40 (b .«point_count»)) (less 40 (b .«line_count»)) (less 40 (b .«equation_count»)) (less 20 (b .«measure_count»))
 
-  after : (v : Checked) → answerAfter b v .ending ≡ ended v (fitOf b)
-  after (Ends e) = refl
-  after Passes = shown (fitOf b)
+  too-short : (out p q r : ℕ) → noRoom b out p q r ≡ true ↔ TooShort b out p q r
+  too-short out p q r = four-of _ _ _ _ (less out (2 * b .«point_count» + b .«measure_count»)) (less p 8192) (less q 8192) (less r 8192)
 
-  nothing-of : (out : List Float) (R : Result) → answerBy b (groupingOf b) R .ending ≢ Fitted → outputBy b (groupingOf b) R out ≡ out
+  nothing-of : (out : List Float) (R : Result) → firstRow false false false false false (unfit R) ≢ 0 → outputBy b (groupingOf b) R out ≡ out
   nothing-of out (fits d) h = absurd (h refl)
   nothing-of out (fails g i t) h = refl
 
-  nothing-after : (out : List Float) (v : Checked) → answerAfter b v .ending ≢ Fitted → outputAfter b out v ≡ out
-  nothing-after out (Ends e) h = refl
-  nothing-after out Passes h = nothing-of out (fitOf b) h
+  nothing-after : (out : List Float) (o n u m r : Bool) → firstRow o n u m r (unfit (fitOf b)) ≢ 0
+      → outputAfter b out (cond o (Ends Ending.TooMany) (cond n (Ends Ending.TooShort) (ordered o u m r))) ≡ out
+  nothing-after out true n u m r h = refl
+  nothing-after out false true u m r h = refl
+  nothing-after out false false true m r h = refl
+  nothing-after out false false false true r h = refl
+  nothing-after out false false false false true h = refl
+  nothing-after out false false false false false h = nothing-of out (fitOf b) h
 
-  -- a job that is not fitted hands out nothing: its output is as it was
-  pub hands-out-nothing : (out p q r : List Float) → endingOf b (length out) (length p) (length q) (length r) ≢ Fitted
-      → outputAfter b out (verdict b out p q r) ≡ out
-  hands-out-nothing out p q r h = nothing-after out (verdict b out p q r) h
+  pub hands-out-nothing : HandsOutNothing b
+  unfolding verdictOf checkOf
+  hands-out-nothing out p q r h =
+      nothing-after out (overBound b) (noRoom b (length out) (length p) (length q) (length r)) (outOfBounds b) (refersToNothing b) (overRows b) h
 
-  -- the failing group is the lowest that does not converge, with its own counts
-  pub lowest-fails : (j i t : ℕ) → fitOf b ≡ fails j i t
-      → (j < groupingOf b .count) × (outcomeAt b (groupingOf b) j ≡ failed i t) × ((l : ℕ) → l < j → fitsAt b l ≡ true)
+  pub lowest-fails : LowestFails b
   unfolding fitOf
   lowest-fails j i t h =
       let s = first b (groupingOf b) (groupCount b (groupingOf b)) 0 (begin b) j i t h in
@@ -263,47 +255,37 @@ module _ (b : Build) where
   fit-all a = none-of (fitOf b) refl a
 
   module _ (out p q r : ℕ) where
-    decided : endingOf b out p q r ≡ judged (overBound b) (noRoom b out p q r) (outOfBounds b) (refersToNothing b) (overRows b) (fitOf b)
-    unfolding verdictOf checkOf
-    decided = after (verdictOf b out p q r)
-
-    given : {A : Type 0} (e : Ending) → (judged (overBound b) (noRoom b out p q r) (outOfBounds b) (refersToNothing b) (overRows b) (fitOf b) ≡ e ↔ A)
-        → endingOf b out p q r ≡ e ↔ A
-    given e f = (λ h. f .0 (sym decided ∙ h), λ a. decided ∙ f .1 a)
-
-    pub never-of-text : ofText (endingOf b out p q r) ≡ false
-    never-of-text = rw decided (not-text (overBound b) (noRoom b out p q r) (outOfBounds b) (refersToNothing b) (overRows b) (fitOf b))
-
-    pub three-exactly : endingOf b out p q r ≡ TooMany ↔ overBound b ≡ true
-    three-exactly = given TooMany (third (overBound b) (noRoom b out p q r) (outOfBounds b) (refersToNothing b) (overRows b) (fitOf b))
-
-    pub nine-exactly : endingOf b out p q r ≡ TooShort ↔ (overBound b ≡ false) × (noRoom b out p q r ≡ true)
-    nine-exactly = given TooShort (ninth (overBound b) (noRoom b out p q r) (outOfBounds b) (refersToNothing b) (overRows b) (fitOf b))
-
-    pub four-exactly : endingOf b out p q r ≡ OutOfBounds ↔ (overBound b ≡ false) × (noRoom b out p q r ≡ false) × (outOfBounds b ≡ true)
-    four-exactly = given OutOfBounds (fourth (overBound b) (noRoom b out p q r) (outOfBounds b) (refersToNothing b) (overRows b) (fitOf b))
-
-    pub five-exactly : endingOf b out p q r ≡ NoSuchItem
-        ↔ (overBound b ≡ false) × (noRoom b out p q r ≡ false) × (outOfBounds b ≡ false) × (refersToNothing b ≡ true)
-    five-exactly = given NoSuchItem (fifth (overBound b) (noRoom b out p q r) (outOfBounds b) (refersToNothing b) (overRows b) (fitOf b))
-
-    pub six-exactly : endingOf b out p q r ≡ TooManyRows
-        ↔ (overBound b ≡ false) × (noRoom b out p q r ≡ false) × (outOfBounds b ≡ false) × (refersToNothing b ≡ false) × (overRows b ≡ true)
-    six-exactly = given TooManyRows (sixth (overBound b) (noRoom b out p q r) (outOfBounds b) (refersToNothing b) (overRows b) (fitOf b))
-
     sound : (overBound b ≡ false) × (noRoom b out p q r ≡ false) × (outOfBounds b ≡ false) × (refersToNothing b ≡ false) × (overRows b ≡ false) → Sound b out p q r
     sound h = record { counts = h .0; room = h .1; numbers = h .2; items = h .3; rows = h .4 }
 
-    pub seven-exactly : endingOf b out p q r ≡ NotConverged ↔ Sound b out p q r × SomeFails b
-    seven-exactly =
-        let f = given NotConverged (seventh (overBound b) (noRoom b out p q r) (outOfBounds b) (refersToNothing b) (overRows b) (fitOf b)) in (
-          λ h. let t = f .0 h in (sound (t .0, t .1, t .2, t .3, t .4), some-fails (t .5)),
-          λ h. f .1 (h .0 .counts, h .0 .room, h .0 .numbers, h .0 .items, h .0 .rows, fails-some (h .1)),
-        )
-
-    pub fitted-exactly : endingOf b out p q r ≡ Fitted ↔ Sound b out p q r × AllFit b
-    fitted-exactly =
-        let f = given Fitted (noughth (overBound b) (noRoom b out p q r) (outOfBounds b) (refersToNothing b) (overRows b) (fitOf b)) in (
-          λ h. let t = f .0 h in (sound (t .0, t .1, t .2, t .3, t .4), all-fit (t .5)),
-          λ h. f .1 (h .0 .counts, h .0 .room, h .0 .numbers, h .0 .items, h .0 .rows, fit-all (h .1)),
-        )
+    pub given-exactly : GivenExactly b out p q r
+    given-exactly =
+        let o = overBound b in
+        let n = noRoom b out p q r in
+        let u = outOfBounds b in
+        let m = refersToNothing b in
+        let w = overRows b in
+        let f = unfit (fitOf b) in
+        let nine = ninth o n u m w f in
+        let six = sixth o n u m w f in
+        let seven = seventh o n u m w f in
+        let nought = noughth o n u m w f in
+        record {
+          three = (λ h. too-many .0 (third o n u m w f .0 h), λ h. third o n u m w f .1 (too-many .1 h));
+          nine = (λ h. let t = nine .0 h in (t .0, too-short out p q r .0 (t .1)), λ h. nine .1 (h .0, too-short out p q r .1 (h .1)));
+          four = fourth o n u m w f;
+          five = fifth o n u m w f;
+          six = (
+            λ h. let t = six .0 h in (t .0, t .1, t .2, t .3, ltb-true 64 (rowsOfBuild b) (t .4)),
+            λ h. six .1 (h .0, h .1, h .2, h .3, lt-ltb 64 (rowsOfBuild b) (h .4)),
+          );
+          seven = (
+            λ h. let t = seven .0 h in (sound (t .0, t .1, t .2, t .3, t .4), some-fails (t .5)),
+            λ h. seven .1 (h .0 .counts, h .0 .room, h .0 .numbers, h .0 .items, h .0 .rows, fails-some (h .1)),
+          );
+          fitted = (
+            λ h. let t = nought .0 h in (sound (t .0, t .1, t .2, t .3, t .4), all-fit (t .5)),
+            λ h. nought .1 (h .0 .counts, h .0 .room, h .0 .numbers, h .0 .items, h .0 .rows, fit-all (h .1)),
+          );
+          not-of-text = not-text o n u m w f;
+        }

@@ -1,7 +1,7 @@
 -- What a job answers and leaves in each lent place, for every input (document 01, "The numbers a job ends in"): numbers 3, 9, 4, 5
 -- and 6 in this order, which return only themselves and change nothing lent; then 7 or 0.
 use Prim.Native.Nat.{ℕ, _+_, _*_}
-use mathlib.Core.Bool.{Bool, cond, _||_}
+use mathlib.Core.Bool.{Bool, true, false, cond, _||_}
 use mathlib.Core.List.{List}
 use mathlib.Core.Path.{_≡_}
 use lib.Dec.{ltb}
@@ -12,12 +12,12 @@ use Rattle.answer.specs.declared.Answer.{Answer}
 use Rattle.floats.specs.Only.{only-answer}
 use Rattle.groups.specs.Listed.{groupingOf}
 use Rattle.rounds.specs.Promise.{zeroed}
-use Rattle.sketch.specs.Check.{overBound, checkOf}
+use Rattle.sketch.specs.Check.{overBound, outOfBounds, refersToNothing, overRows, checkOf, numberOf}
 use Rattle.sketch.specs.declared.Build.{Build}
 use Rattle.sketch.specs.declared.Checked.{Checked}
 use Rattle.sketch.specs.declared.Checked.the-variants.{Passes, Ends}
 use Rattle.sketch.specs.declared.Ending.the-variants.{TooMany, TooShort}
-use Rattle.job.specs.Groups.{fitOf, answerBy, outputBy}
+use Rattle.job.specs.Groups.{Result, fits, fails, fitOf, answerBy, outputBy}
 
 -- 9: output shorter than two numbers per point plus one per measure, or any of three work areas shorter than 8,192
 abbrev pub noRoom : Build → ℕ → ℕ → ℕ → ℕ → Bool
@@ -26,6 +26,25 @@ noRoom b out p q r = ltb out (2 * b .«point_count» + b .«measure_count») || 
 -- 3 before 9 before the rest of the check
 unfoldable pub verdictOf : Build → ℕ → ℕ → ℕ → ℕ → Checked
 verdictOf b out p q r = cond (overBound b) (Ends TooMany) (cond (noRoom b out p q r) (Ends TooShort) (checkOf b))
+
+-- 7: some group does not converge
+abbrev pub unfit : Result → Bool
+unfit (fits d) = false
+unfit (fails g i t) = true
+
+-- 01's number of the first row that holds, the rows in 01's order: 3, 9, 4, 5, 6 and 7; and 0 where none does
+abbrev pub firstRow : Bool → Bool → Bool → Bool → Bool → Bool → ℕ
+firstRow true n u m r f = 3
+firstRow false true u m r f = 9
+firstRow false false true m r f = 4
+firstRow false false false true r f = 5
+firstRow false false false false true f = 6
+firstRow false false false false false true = 7
+firstRow false false false false false false = 0
+
+-- the number of a job, with an output and areas of these lengths
+abbrev pub numberIn : Build → ℕ → ℕ → ℕ → ℕ → ℕ
+numberIn b out p q r = firstRow (overBound b) (noRoom b out p q r) (outOfBounds b) (refersToNothing b) (overRows b) (unfit (fitOf b))
 
 abbrev pub answerAfter : Build → Checked → Answer
 answerAfter b (Ends e) = refusedOf e
@@ -45,6 +64,7 @@ module _ (b : Build) (out p q r : List Float) where
 
   pub record Does (out′ p′ q′ r′ : List Float) (a : Answer) : Type 0 where
     pub answer : a ≡ answerAfter b verdict
+    pub number : numberOf (a .ending) ≡ numberIn b (length out) (length p) (length q) (length r)
     pub output : out′ ≡ outputAfter b out verdict
     pub first : p′ ≡ areaAfter p verdict
     pub second : q′ ≡ areaAfter q verdict
