@@ -1,7 +1,9 @@
--- From what the calls of `set_out` promise to the frame. Assumes nothing.
+-- From what the calls of `set_out` promise to the frame, and what a frame lists. Assumes nothing.
 use Prim.Native.Nat.{ℕ}
 use mathlib.Core.List.{List}
-use mathlib.Core.Path.{_≡_}
+use mathlib.Core.Path.{_≡_, refl}
+use lib.ListN.{length}
+use lib.Seq.{take-at}
 use Rattle.groups.specs.Chains.{pointsIn, equationsIn}
 use Rattle.groups.specs.declared.Grouping.{Grouping}
 use Rattle.members.specs.Lists.{Lists, numbersOf, numbers-are}
@@ -19,3 +21,13 @@ unfolding frameOf
 set-out-is points gr g l e f places columns hl he hf hp hc =
     let h : Holds f (freeFrom 0 (pointsAt points (pointsIn gr g))) = rw (numbers-are l (pointsIn gr g) hl) at hf in
     rw (hp, hc, numbers-are l (pointsIn gr g) hl, indices-are f (freeFrom 0 (pointsAt points (pointsIn gr g))) h, hl .is, he .is, h .is)
+
+-- what a frame lists can be read back
+module _ (points : List Point) (gr : Grouping) (g : ℕ) where
+  pub points-back : numbersOf (frameOf points gr g .points) ≡ pointsIn gr g
+  unfolding frameOf
+  points-back = take-at (pointsIn gr g) _ (length (pointsIn gr g)) refl
+
+  pub equations-back : numbersOf (frameOf points gr g .equations) ≡ equationsIn gr g
+  unfolding frameOf
+  equations-back = take-at (equationsIn gr g) _ (length (equationsIn gr g)) refl

@@ -5,10 +5,10 @@ use mathlib.Core.Bool.{Bool, true, false, cond}
 use mathlib.Core.List.{List, [], _∷_, _++_, map, flatMap, List·Memᴰ, List·Memᴰ·head, List·Memᴰ·tail, List·Memᴰ·cases-cons}
 use mathlib.Core.Logic.{_⊎_, inl, inr}
 use mathlib.Core.Path.{_≡_, refl, ap, ap₂, _∙_}
-use lib.Dec.{eqb}
+use lib.Dec.{eqb, ltb}
 use lib.Ieee.{Float}
 use lib.ListN.{length, set, replicate}
-use lib.Seq.{take-at}
+use Rattle.groups.specs.Listed.{groupingOf}
 use Rattle.loops.specs.Turns.{fold}
 use Rattle.members.specs.Lists.{listedOf, numbersOf, withoutOf}
 use Rattle.members.specs.Movable.{pointsAt, freeFrom, coordinatesOf, indicesOf}
@@ -44,8 +44,10 @@ use Rattle.sketch.specs.declared.PointNo.{PointNo}
 use Rattle.solver.specs.Sums.{maxAbsOf}
 use Rattle.fit.specs.Fits.{outcomeIn, worstOf, gradientsOf, freedomOf, converges, suspect, mark, suspectsOf}
 use Rattle.fit.specs.Frames.{frameOf, startIn}
-use Rattle.fit.specs.Own.{pointsOfGroup, equationsOfGroup, frameOfGroup, linesNamed, SharesGroup, FitsAlike}
+use Rattle.fit.specs.Groups.{lowestOf, freedomIn, frameIn}
+use Rattle.fit.specs.Own.{pointsOfGroup, equationsOfGroup, linesNamed, SharesGroup, FitsAlike}
 use Rattle.fit.specs.declared.Frame.{Frame}
+use Rattle.fit.proofs.Sets.{points-back, equations-back}
 
 -- ---- functions that agree on a list come to the same over it
 
@@ -152,11 +154,11 @@ module _ {b b′ : Build} (f : Frame) where
       (start i)
 
   module _ (a : AgreeOn b b′ (numbersOf (f .equations))) where
-    freedom-on : (x : List Float) → freedomOf b f x ≡ freedomOf b′ f x
+    freedom-on : (x : List Float) → freedomIn b f x ≡ freedomIn b′ f x
     unfolding freedomOf gradientsOf
     freedom-on x =
         let n = length (indicesOf (f .free)) in
-        ap₂ (λ rows j. n - rankOf (decomposedOf rows n j)) (count-on a) (jacobian-on a (f .places) x (f .columns) n)
+        ap₂ (λ rows j. cond (ltb 64 rows) 0 (n - rankOf (decomposedOf rows n j))) (count-on a) (jacobian-on a (f .places) x (f .columns) n)
 
     worst-on : (x : List Float) → worstOf b f x ≡ worstOf b′ f x
     unfolding worstOf
@@ -173,7 +175,7 @@ module _ {b b′ : Build} {g g′ : ℕ} (s : SharesGroup b b′ g g′) where
   points-same : pointsAt (b .points) (pointsOfGroup b g) ≡ pointsAt (b′ .points) (pointsOfGroup b′ g′)
   points-same = map-on (pointsOfGroup b g) (s .points) ∙ ap (pointsAt (b′ .points)) (s .listed-points)
 
-  frames-same : frameOfGroup b g ≡ frameOfGroup b′ g′
+  frames-same : frameIn b (groupingOf b) g ≡ frameIn b′ (groupingOf b′) g′
   unfolding frameOf
   frames-same =
       λ i. record {
@@ -184,33 +186,25 @@ module _ {b b′ : Build} {g g′ : ℕ} (s : SharesGroup b b′ g g′) where
         columns = columnsOf (freeFrom 0 (points-same i));
       }
 
-  -- what the frame lists can be read back
-  points-back : numbersOf (frameOfGroup b g .points) ≡ pointsOfGroup b g
-  unfolding frameOf
-  points-back = take-at (pointsOfGroup b g) _ (length (pointsOfGroup b g)) refl
+  points-listed : pointsAt (b .points) (numbersOf (frameIn b (groupingOf b) g .points)) ≡ pointsAt (b′ .points) (numbersOf (frameIn b (groupingOf b) g .points))
+  points-listed = rw (points-back (b .points) (groupingOf b) g) (map-on (pointsOfGroup b g) (s .points))
 
-  equations-back : numbersOf (frameOfGroup b g .equations) ≡ equationsOfGroup b g
-  unfolding frameOf
-  equations-back = take-at (equationsOfGroup b g) _ (length (equationsOfGroup b g)) refl
-
-  points-listed : pointsAt (b .points) (numbersOf (frameOfGroup b g .points)) ≡ pointsAt (b′ .points) (numbersOf (frameOfGroup b g .points))
-  points-listed = rw points-back (map-on (pointsOfGroup b g) (s .points))
-
-  start-same : startIn b (frameOfGroup b g) ≡ startIn b′ (frameOfGroup b g)
+  start-same : startIn b (frameIn b (groupingOf b) g) ≡ startIn b′ (frameIn b (groupingOf b) g)
   start-same = λ i. startOf (s .centre i) (s .size i) (points-listed i)
 
   agree : AgreeOn b b′ (equationsOfGroup b g)
   agree = record { equations = s .equations; lines = s .lines }
 
-  agree-listed : AgreeOn b b′ (numbersOf (frameOfGroup b g .equations))
-  agree-listed = rw equations-back agree
+  agree-listed : AgreeOn b b′ (numbersOf (frameIn b (groupingOf b) g .equations))
+  agree-listed = rw (equations-back (b .points) (groupingOf b) g) agree
 
   pub own-part-alone : FitsAlike b b′ g g′
   own-part-alone =
-      let f = frameOfGroup b g in
+      let f = frameIn b (groupingOf b) g in
       record {
-        fit = outcome-on f start-same agree ∙ ap₂ (outcomeIn b′) frames-same (s .listed-equations);
-        freedom = λ x. freedom-on f agree-listed x ∙ ap (λ f′. freedomOf b′ f′ x) frames-same;
+        fit = outcome-on f start-same agree-listed ∙ ap (λ f′. outcomeIn b′ f′ (numbersOf (f′ .equations))) frames-same;
+        freedom = λ x. freedom-on f agree-listed x ∙ ap (λ f′. freedomIn b′ f′ x) frames-same;
         worst = λ x. worst-on f agree-listed x ∙ ap (λ f′. worstOf b′ f′ x) frames-same;
         suspects = suspects-on f agree-listed start-same ∙ ap (suspectsOf b′) frames-same;
+        lowest = ap lowestOf frames-same;
       }

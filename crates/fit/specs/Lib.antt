@@ -1,5 +1,6 @@
 pub mod Frames
 pub mod Fits
+pub mod Groups
 pub mod Own
 pub mod Examples
 pub mod Table

@@ -1,25 +1,20 @@
 -- Document 01, demand 3, of two builds: a group's fit depends on its own part of the build alone. It is said over the definitions of
--- the fit, each given the whole build and the group's number, and proved of any two builds, whether or not they pass the checks before
+-- Groups.antt, each given the whole build and the group's number, of which a job's answer is made, and proved of any two builds, whether or not they pass the checks before
 -- the fit: `own-part-alone` (proofs/Theorem.antt). specs/Examples.antt has two builds that share a group and little else.
 use Prim.Native.Nat.{ℕ}
-use mathlib.Core.Bool.{Bool}
 use mathlib.Core.List.{List, [], _∷_, List·Memᴰ}
 use mathlib.Core.Path.{_≡_}
 use lib.Ieee.{Float}
 use lib.ListN.{getD}
 use Rattle.groups.specs.Chains.{pointsIn, equationsIn}
 use Rattle.groups.specs.Listed.{groupingOf}
-use Rattle.groups.specs.declared.Grouping.{Grouping}
 use Rattle.members.specs.Movable.{nowhere}
-use Rattle.rounds.specs.Solve.{Outcome}
 use Rattle.rows.specs.Column.{equationAt}
 use Rattle.sketch.specs.Involved.{lineAt}
 use Rattle.sketch.specs.declared.Build.{Build}
 use Rattle.sketch.specs.declared.Equation.{Equation}
 use Rattle.sketch.specs.declared.LineNo.{LineNo}
-use Rattle.fit.specs.Fits.{outcomeIn, worstOf, freedomOf, suspectsOf}
-use Rattle.fit.specs.Frames.{frameOf}
-use Rattle.fit.specs.declared.Frame.{Frame}
+use Rattle.fit.specs.Groups.{outcomeAt, freedomAt, worstAt, suspectsAt, lowestAt}
 
 -- ---- a group of a build
 
@@ -29,24 +24,6 @@ pointsOfGroup b g = pointsIn (groupingOf b) g
 
 abbrev pub equationsOfGroup : Build → ℕ → List ℕ
 equationsOfGroup b g = equationsIn (groupingOf b) g
-
--- group g set out for its fit
-abbrev pub frameOfGroup : Build → ℕ → Frame
-frameOfGroup b g = frameOf (b .points) (groupingOf b) g
-
--- its fit with all its equations: converged or failed, the coordinates, the iterations and the tries
-abbrev pub fitOfGroup : Build → ℕ → Outcome
-fitOfGroup b g = outcomeIn b (frameOfGroup b g) (equationsOfGroup b g)
-
--- its freedom and its largest residual magnitude at given coordinates, and its suspects
-abbrev pub freedomOfGroup : Build → ℕ → List Float → ℕ
-freedomOfGroup b g x = freedomOf b (frameOfGroup b g) x
-
-abbrev pub worstOfGroup : Build → ℕ → List Float → Float
-worstOfGroup b g x = worstOf b (frameOfGroup b g) x
-
-abbrev pub suspectsOfGroup : Build → ℕ → List Bool
-suspectsOfGroup b g = suspectsOf b (frameOfGroup b g)
 
 -- ---- what two builds share
 
@@ -90,8 +67,9 @@ pub record SharesGroup (b b′ : Build) (g g′ : ℕ) : Type 0 where
 
 pub record FitsAlike (b b′ : Build) (g g′ : ℕ) : Type 0 where
   -- outcome, coordinates, iterations and tries
-  pub fit : fitOfGroup b g ≡ fitOfGroup b′ g′
+  pub fit : outcomeAt b (groupingOf b) g ≡ outcomeAt b′ (groupingOf b′) g′
   -- at whatever coordinates, so at those of the fit
-  pub freedom : (x : List Float) → freedomOfGroup b g x ≡ freedomOfGroup b′ g′ x
-  pub worst : (x : List Float) → worstOfGroup b g x ≡ worstOfGroup b′ g′ x
-  pub suspects : suspectsOfGroup b g ≡ suspectsOfGroup b′ g′
+  pub freedom : (x : List Float) → freedomAt b (groupingOf b) g x ≡ freedomAt b′ (groupingOf b′) g′ x
+  pub worst : (x : List Float) → worstAt b (groupingOf b) g x ≡ worstAt b′ (groupingOf b′) g′ x
+  pub suspects : suspectsAt b (groupingOf b) g ≡ suspectsAt b′ (groupingOf b′) g′
+  pub lowest : lowestAt b (groupingOf b) g ≡ lowestAt b′ (groupingOf b′) g′

@@ -13,6 +13,7 @@ use Rattle.fit.specs.Fits.{Marks, short}
 use Rattle.fit.specs.Frames.{frameOf}
 use Rattle.fit.specs.declared.Frame.{Frame}
 use Rattle.fit.specs.declared.Marked.{Marked}
+use Rattle.fit.specs.Groups.{lowestOf}
 use Rattle.groups.specs.Listed.{groupingOf}
 use Rattle.groups.specs.declared.Grouping.{Grouping}
 use Rattle.rounds.specs.Promise.{zeroed}
@@ -20,7 +21,7 @@ use Rattle.sketch.specs.Check.{numberOf}
 use Rattle.sketch.specs.declared.Build.{Build}
 use Rattle.sketch.specs.declared.Checked.the-variants.{Passes, Ends}
 use Rattle.sketch.specs.declared.Ending.{Ending}
-use Rattle.job.specs.Groups.{fits, fails, resultOf, lowestOf, groupsFrom, begin, answerBy, outputBy, fitOf}
+use Rattle.job.specs.Groups.{fits, fails, resultOf, groupsFrom, begin, answerBy, outputBy, fitOf}
 use Rattle.job.specs.Promise.{verdict, answerAfter, numberIn, Does}
 use Rattle.job.specs.declared.Went.{Went}
 use Rattle.job.proofs.Numbered.{number-is}

@@ -17,13 +17,14 @@ use Rattle.loops.specs.Turns.{upTo, upTo-next}
 use Rattle.members.specs.Movable.{fixedOf, nowhere, indicesOf}
 use Rattle.sketch.specs.declared.Build.{Build}
 use Rattle.sketch.specs.declared.Point.{Point}
-use Rattle.job.specs.Groups.{countOf, freedomIn, looseIn, looseAt}
+use Rattle.fit.specs.Groups.{freedomIn}
+use Rattle.job.specs.Groups.{countOf, looseIn, looseAt}
 
 -- areas that are long enough
 pub roomy : (p q r : List Float) → 6400 ≤ length p → 6400 ≤ length q → 6400 ≤ length r → short p q r ≡ false
 roomy p q r h k l = rw (le-ltb (length p) 6400 h, le-ltb (length q) 6400 k, le-ltb (length r) 6400 l)
 
-counts : (o : Bool) (n : ℕ) → countOf (cond o Degrees.TooMany (Degrees.Of n)) ≡ cond o 0 n
+counts : (o : Bool) (n : ℕ) → countOf (cond o Degrees.TooManyRows (Degrees.Of n)) ≡ cond o 0 n
 counts true n = refl
 counts false n = refl
 
@@ -35,7 +36,7 @@ module _ (b : Build) (f : Frame) (x p q r p′ q′ r′ : List Float) (t : Degr
     (e : Frees b f x p q r p′ q′ r′ t) (c : n ≡ countOf t) where
   pub freedom-is : n ≡ freedomIn b f x
   freedom-is =
-      let q : t ≡ cond (overRows b f) Degrees.TooMany (Degrees.Of (freedomOf b f x)) = e .answer ∙ rw room in
+      let q : t ≡ cond (overRows b f) Degrees.TooManyRows (Degrees.Of (freedomOf b f x)) = e .answer ∙ rw room in
       c ∙ rw q (counts (overRows b f) (freedomOf b f x))
 
   less : freedomOf b f x ≤ length (indicesOf (f .free))

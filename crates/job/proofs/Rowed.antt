@@ -11,15 +11,15 @@ use borrow.Author.Tests.{le-ltb, ltb-false}
 use lib.Dec.{eqb}
 use lib.Ieee.{Float}
 use lib.ListN.{length, getD, take, drop, drop-of-length-le, length-take, List·getD-eq-default}
-use lib.Seq.{drop-cons, getD-take, take-at}
+use lib.Seq.{drop-cons, getD-take}
+use Rattle.fit.proofs.Sets.{equations-back}
 use Rattle.fit.specs.Fits.{freedomOf, overRows}
-use Rattle.fit.specs.Frames.{frameOf}
+use Rattle.fit.specs.Groups.{freedomIn, frameIn}
 use Rattle.groups.proofs.Theorem.{groups-are-chains}
 use Rattle.groups.specs.Chains.{Touches, placesFrom, equationsIn}
 use Rattle.groups.specs.Listed.{groupingOf}
 use Rattle.groups.specs.Touches.{number, held, touchedIn}
 use Rattle.loops.specs.Turns.{fold}
-use Rattle.members.specs.Lists.{numbersOf}
 use Rattle.rounds.specs.Problem.{moreRows, rowCount}
 use Rattle.rows.specs.Column.{heldActive, equationAt}
 use Rattle.sketch.specs.Check.{checkOf}
@@ -32,7 +32,6 @@ use Rattle.sketch.specs.declared.Active.{Active}
 use Rattle.sketch.specs.declared.Build.{Build}
 use Rattle.sketch.specs.declared.Checked.the-variants.{Passes}
 use Rattle.sketch.specs.declared.Line.{Line}
-use Rattle.job.specs.Groups.{freedomIn, frameIn}
 
 -- rows are only added
 grows : (l : List Active) (t : ℕ) → t ≤ fold rows.moreRows t l
@@ -118,12 +117,8 @@ module _ (b : Build) (passes : checkOf b ≡ Passes) (g : ℕ) (among : g < grou
         ltb-false 64 (rowsOfBuild b) (given-exactly b .passes .0 passes .3),
       ))
 
-  listed : numbersOf (frameIn b (groupingOf b) g .equations) ≡ equationsIn (groupingOf b) g
-  unfolding frameOf
-  listed = take-at (equationsIn (groupingOf b) g) _ (length (equationsIn (groupingOf b) g)) refl
-
   pub never-over : overRows b (frameIn b (groupingOf b) g) ≡ false
-  never-over = rw listed (le-ltb 64 _ few)
+  never-over = rw (equations-back (b .points) (groupingOf b) g) (le-ltb 64 _ few)
 
   pub freedom-is-freedom : (x : List Float) → freedomIn b (frameIn b (groupingOf b) g) x ≡ freedomOf b (frameIn b (groupingOf b) g) x
   freedom-is-freedom x = rw never-over

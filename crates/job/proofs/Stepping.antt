@@ -11,13 +11,14 @@ use Rattle.fit.specs.Frames.{frameOf, startIn}
 use Rattle.fit.specs.declared.Fitted.{Fitted}
 use Rattle.fit.specs.declared.Frame.{Frame}
 use Rattle.floats.specs.Magnitude.{maxOf}
+use Rattle.fit.specs.Groups.{lowestOf, freedomIn}
 use Rattle.groups.specs.declared.Grouping.{Grouping}
 use Rattle.members.specs.Lists.{numbersOf}
 use Rattle.members.specs.Scale.{unscaleOf}
 use Rattle.rounds.specs.Promise.{convergedBy}
 use Rattle.rounds.specs.Solve.{Outcome, converged, failed}
 use Rattle.sketch.specs.declared.Build.{Build}
-use Rattle.job.specs.Groups.{Result, fits, fails, resultOf, lowestOf, freedomIn, takenOf, stepBy, stepOf, groupsFrom, begin}
+use Rattle.job.specs.Groups.{Result, fits, fails, resultOf, takenOf, stepBy, stepOf, groupsFrom, begin}
 use Rattle.job.specs.declared.Doing.{Doing}
 use Rattle.job.specs.declared.Went.{Went}
 

@@ -12,6 +12,7 @@ use lib.Ieee.{Float}
 use lib.ListN.{length}
 use Rattle.fit.specs.Fits.{converges, padded}
 use Rattle.fit.specs.Frames.{startIn}
+use Rattle.fit.specs.Groups.{outcomeAt, frameIn}
 use Rattle.groups.specs.Listed.{groupingOf}
 use Rattle.groups.specs.declared.Grouping.{Grouping}
 use Rattle.rounds.specs.Solve.{Outcome, converged, failed}
@@ -21,7 +22,7 @@ use Rattle.sketch.specs.declared.Build.{Build}
 use Rattle.sketch.specs.declared.Checked.the-variants.{Ends}
 use Rattle.sketch.specs.declared.Ending.{Ending}
 use Rattle.job.specs.Given.{TooMany, TooShort, fitsAt, SomeFails, AllFit, Sound, GivenExactly, LowestFails, HandsOutNothing}
-use Rattle.job.specs.Groups.{Result, fits, fails, takenOf, outcomeAt, frameIn, stepOf, groupsFrom, groupCount, begin, fitOf, outputBy}
+use Rattle.job.specs.Groups.{Result, fits, fails, takenOf, stepOf, groupsFrom, groupCount, begin, fitOf, outputBy}
 use Rattle.job.specs.Promise.{noRoom, verdictOf, outputAfter, unfit, firstRow}
 use Rattle.job.specs.declared.Doing.{Doing}
 use Rattle.job.proofs.Few.{all-counted}

@@ -1,5 +1,5 @@
 -- lib.rs, `solve_group` and the loop of `solve` over the groups, over the whole build: each group is fitted by itself, in rising
--- order, until one does not converge. The fit, freedom, worst and suspects of a group are the room `fit`'s.
+-- order, until one does not converge. The fit, freedom, worst, suspects and lowest point of a group are the room `fit`'s.
 use Prim.Native.Nat.{ℕ, zero, suc, _+_, _*_, min}
 use mathlib.Core.Bool.{Bool, cond, not, _&&_}
 use mathlib.Core.List.{List}
@@ -8,8 +8,9 @@ use lib.Ieee.{Float}
 use lib.ListN.{length, getD, set, replicate}
 use Rattle.answer.specs.Endings.{blankGroup, failedOf, fittedOf}
 use Rattle.answer.specs.declared.Answer.{Answer}
-use Rattle.fit.specs.Fits.{outcomeIn, padded, worstOf, freedomOf, overRows, suspectsOf}
-use Rattle.fit.specs.Frames.{frameOf, startIn}
+use Rattle.fit.specs.Fits.{padded, worstOf}
+use Rattle.fit.specs.Frames.{startIn}
+use Rattle.fit.specs.Groups.{lowestOf, freedomIn, frameIn, outcomeAt, suspectsAt, lowestAt}
 use Rattle.fit.specs.declared.Frame.{Frame}
 use Rattle.fit.specs.declared.Degrees.{Degrees}
 use Rattle.floats.specs.Magnitude.{maxOf}
@@ -40,20 +41,11 @@ followed (fails g i t) k = fails g i t
 abbrev pub resultOf : Went → Result
 resultOf w = cond (w .failed) (fails (w .group) (w .iterations) (w .tries)) (fits (w .doing))
 
--- the lowest point of a group: its first
-abbrev pub lowestOf : Frame → ℕ
-lowestOf f = getD (f .points .items) 0 0
-
 -- what a call for the freedom came to, as a number
 abbrev pub countOf : Degrees → ℕ
 countOf (Degrees.Of n) = n
-countOf Degrees.TooMany = 0
 countOf Degrees.TooShort = 0
-
--- the freedom of a group; with more than 64 rows it would count none, and no group of a build that passes the check has more
--- (proofs/Rowed.antt)
-abbrev pub freedomIn : Build → Frame → List Float → ℕ
-freedomIn b f x = cond (overRows b f) 0 (freedomOf b f x)
+countOf Degrees.TooManyRows = 0
 
 -- `Ok(GroupResult { points: eq.unscale(g, &x), dof, free })` and what `solve` does with it, of group g, which is set out as f
 unfoldable pub takenOf : Build → Frame → ℕ → List Float → ℕ → ℕ → Doing → Doing
@@ -81,15 +73,8 @@ unfoldable pub looseOf : List Point → List ℕ → ℕ → ℕ
 looseOf points of n = upTo n 0 (looseAt points of) 0
 
 module _ (b : Build) (gr : Grouping) where
-  abbrev pub frameIn : ℕ → Frame
-  frameIn g = frameOf (b .points) gr g
-
-  -- `eq.fit(g, &g.constraints)`
-  abbrev pub outcomeAt : ℕ → Outcome
-  outcomeAt g = outcomeIn b (frameIn g) (numbersOf (frameIn g .equations))
-
   unfoldable pub stepOf : ℕ → Doing → Result
-  stepOf g d = stepBy b (frameIn g) g d (outcomeAt g)
+  stepOf g d = stepBy b (frameIn b gr g) g d (outcomeAt b gr g)
 
   -- the k groups from g on
   unfoldable pub groupsFrom : ℕ → ℕ → Doing → Result
@@ -106,7 +91,7 @@ module _ (b : Build) (gr : Grouping) where
 
   abbrev pub answerBy : Result → Answer
   answerBy (fits d) = fittedOf groupCount (d .groups) (d .freedom + 2 * looseCount) (d .worst)
-  answerBy (fails g i t) = failedOf (record { lowest = lowestOf (frameIn g); freedom = 0; iterations = i; tries = t }) (suspectsOf b (frameIn g))
+  answerBy (fails g i t) = failedOf (record { lowest = lowestAt b gr g; freedom = 0; iterations = i; tries = t }) (suspectsAt b gr g)
 
   abbrev pub outputBy : Result → List Float → List Float
   outputBy (fits d) out = handedOut b (d .points) out

@@ -2,7 +2,8 @@
 ghost use mathlib.Core.Path.{_≡_};
 ghost use Prim.Native.Nat.{_+_, _≤_, _<_};
 ghost use lib.ListN.{length};
-ghost use Rattle.job.specs.Groups.{lowestOf, takenOf, resultOf, stepOf};
+ghost use Rattle.fit.specs.Groups.{lowestOf};
+ghost use Rattle.job.specs.Groups.{takenOf, resultOf, stepOf};
 use crate::Doing;
 use crate::Went;
 use crate::freedoms::freedom_at;

@@ -3,7 +3,8 @@ ghost use mathlib.Core.Path.{_≡_};
 ghost use mathlib.Core.Bool.{cond};
 ghost use Prim.Native.Nat.{_+_, _≤_, _<_};
 ghost use lib.ListN.{length};
-ghost use Rattle.job.specs.Groups.{countOf, freedomIn, looseIn, looseCount};
+ghost use Rattle.fit.specs.Groups.{freedomIn};
+ghost use Rattle.job.specs.Groups.{countOf, looseIn, looseCount};
 use fit::Degrees;
 use fit::Frame;
 use groups::Grouping;
@@ -16,8 +17,8 @@ fn count(t: Degrees) -> usize
 {
     match t {
         Degrees::Of(n) => n,
-        Degrees::TooMany => 0,
         Degrees::TooShort => 0,
+        Degrees::TooManyRows => 0,
     }
 }
 

@@ -1,0 +1,75 @@
+-- What a group of a build comes to, each given the whole build, its groups and the group's number: its fit, freedom, worst, suspects and
+-- lowest point. What a job hands out is made of these (crates/job/specs/Groups.antt), and of these demand 3 says that they depend on the
+-- group's own part of the build alone (Own.antt).
+use Prim.Native.Nat.{ℕ, _<_}
+use mathlib.Core.Bool.{Bool, true, false, cond}
+use mathlib.Core.List.{List, map, List·Memᴰ}
+use mathlib.Core.Logic.{_↔_}
+use mathlib.Core.Path.{_≡_}
+use lib.Ieee.{Float}
+use lib.ListN.{getD}
+use Rattle.floats.specs.Ops.{1e-12}
+use Rattle.groups.specs.Chains.{equationsIn, Lowest}
+use Rattle.groups.specs.declared.Grouping.{Grouping}
+use Rattle.members.specs.Lists.{numbersOf, withoutOf}
+use Rattle.rounds.specs.Solve.{Outcome, converged}
+use Rattle.rows.specs.Column.{rowsAt}
+use Rattle.rows.specs.Entries.{Row}
+use Rattle.sketch.specs.declared.Build.{Build}
+use Rattle.solver.specs.Sums.{AllWithin}
+use Rattle.fit.specs.Fits.{outcomeIn, worstOf, freedomOf, overRows, converges, suspectsOf}
+use Rattle.fit.specs.Frames.{frameOf}
+use Rattle.fit.specs.declared.Frame.{Frame}
+
+-- the lowest point of a group: its first
+abbrev pub lowestOf : Frame → ℕ
+lowestOf f = getD (f .points .items) 0 0
+
+-- the freedom of a group; with more than 64 rows it would count none, and no group of a build that passes the check has more
+-- (crates/job/proofs/Rowed.antt)
+abbrev pub freedomIn : Build → Frame → List Float → ℕ
+freedomIn b f x = cond (overRows b f) 0 (freedomOf b f x)
+
+module _ (b : Build) (gr : Grouping) (g : ℕ) where
+  -- group g set out for its fit
+  abbrev pub frameIn : Frame
+  frameIn = frameOf (b .points) gr g
+
+  -- `eq.fit(g, &g.constraints)`: converged or failed, the coordinates, the iterations and the tries
+  abbrev pub outcomeAt : Outcome
+  outcomeAt = outcomeIn b frameIn (numbersOf (frameIn .equations))
+
+  -- at given coordinates
+  abbrev pub freedomAt : List Float → ℕ
+  freedomAt x = freedomIn b frameIn x
+
+  abbrev pub worstAt : List Float → Float
+  worstAt x = worstOf b frameIn x
+
+  abbrev pub suspectsAt : List Bool
+  suspectsAt = suspectsOf b frameIn
+
+  abbrev pub lowestAt : ℕ
+  lowestAt = lowestOf frameIn
+
+  -- the fit without equation k
+  abbrev pub outcomeWithout : ℕ → Outcome
+  outcomeWithout k = outcomeIn b frameIn (withoutOf k (equationsIn gr g))
+
+  -- equation k is a suspect exactly when it is one of the group's and the group without it converges: `suspects-exactly`
+  -- (proofs/Suspects.antt)
+  abbrev pub SuspectsExactly : Type 0
+  SuspectsExactly = (k : ℕ) → k < 40 → getD suspectsAt k false ≡ true ↔ List·Memᴰ k (equationsIn gr g) × (converges (outcomeWithout k) ≡ true)
+
+  -- the residuals of equation k at given coordinates of the group
+  abbrev pub residualsAt : List Float → ℕ → List Float
+  residualsAt x k = map (λ (row : Row). row .value) (rowsAt (b .equations) (b .lines) (frameIn .places) x k)
+
+  -- fitted means fitted: at the coordinates of a group that converged, every residual of every of its equations is finite and of
+  -- magnitude at most 1e-12: `fitted-holds` (proofs/Fitted.antt)
+  abbrev pub FittedHolds : Type 0
+  FittedHolds = (x : List Float) (i t : ℕ) → outcomeAt ≡ converged x i t → (k : ℕ) → List·Memᴰ k (equationsIn gr g) → AllWithin 1e-12 (residualsAt x k)
+
+  -- the lowest point is the `Lowest` of crates/groups/specs/Chains.antt: `lowest-is` (proofs/Lowest.antt), of every build that passes
+  abbrev pub LowestIs : Type 0
+  LowestIs = g < gr .count → Lowest gr g lowestAt
