@@ -5,6 +5,6 @@ pub mod RanksLaws
 pub mod MarksLaws
 pub mod Theorem
 pub mod Handed
-pub mod Suspects
-pub mod Fitted
+pub mod SuspectsTheorem
+pub mod MeansFitted
 pub mod Lowest

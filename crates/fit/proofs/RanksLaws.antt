@@ -6,12 +6,12 @@ use mathlib.Core.Path.{_≡_, refl, sym, ap, _∙_}
 use native.Mathlib.Nat.{add-zero, le-refl, min-le-right, mul-le-mul-right}
 use native.Mathlib.Omega.{arith}
 use borrow.Author.Tests.{le-ltb, lt-ltb}
-use lib.Dec.{ltb}
+use lib.Dec.{lit≤}
 use lib.Ieee.{Float}
 use lib.ListN.{length, getD, take, drop, replicate, length-take, length-append, length-drop}
-use lib.Seq.{length-take-le, take-at, drop-at, drop-drop, drop-append-add}
+use lib.Seq.{getD-take, length-take-le, take-at, drop-at, drop-drop, drop-append-add}
 use Rattle.floats.specs.Ops.{zero⁺}
-use Rattle.loops.specs.Turns.{fold}
+use Rattle.loops.specs.Turns.{fold, fold-next, fold-done}
 use Rattle.members.specs.Lists.{numbersOf}
 use Rattle.members.specs.Movable.{indicesOf}
 use Rattle.members.specs.declared.Listed.{Listed}
@@ -32,7 +32,6 @@ use Rattle.slopes.specs.Dense.{jacobianOf}
 use Rattle.fit.specs.Fits.{gradientsOf, freedomOf, overRows, short, meaningOf, Lays, Ranks, freedBy, Frees}
 use Rattle.fit.specs.declared.Degrees.{Degrees}
 use Rattle.fit.specs.declared.Frame.{Frame}
-use Rattle.fit.proofs.MarksLaws.{turn-next}
 
 -- ---- how many items of an array are listed
 
@@ -173,12 +172,45 @@ module _ (b : Build) (f : Frame) (x p q r : List Float) where
 
 -- ---- counting the rows
 
-module _ (es : List Active) (l : Listed) (n i rows : ℕ) (e : n ≡ length (numbersOf l)) (h : i < n) (R : ℕ) (t : fold (moreRows es) rows (drop i (numbersOf l)) ≡ R) where
-  pub more-rows : (r : ℕ) (q : Equation) → r ≡ rowsOf q → q ≡ equationAt es (getD (l .items) i 0) → fold (moreRows es) (rows + r) (drop (i + 1) (numbersOf l)) ≡ R
+pub two-at-most : (e : Equation) → rowsOf e ≤ 2
+unfolding rowsOf
+two-at-most (Equation.Coincident a b) = lit≤ tt
+two-at-most (Equation.Level a b axis) = lit≤ tt
+two-at-most (Equation.Parallel i j) = lit≤ tt
+two-at-most (Equation.Perpendicular i j) = lit≤ tt
+two-at-most (Equation.Collinear i j) = lit≤ tt
+two-at-most (Equation.Equal i j) = lit≤ tt
+two-at-most Equation.Held = lit≤ tt
+two-at-most (Equation.Distance a b value) = lit≤ tt
+two-at-most (Equation.AxisDistance a b axis value side) = lit≤ tt
+two-at-most (Equation.Length l value) = lit≤ tt
+two-at-most (Equation.PointLine p l value side) = lit≤ tt
+two-at-most (Equation.ArcEnds c f t) = lit≤ tt
+two-at-most (Equation.Radius c f value) = lit≤ tt
+two-at-most (Equation.LineCircle l c rad side) = lit≤ tt
+two-at-most (Equation.CircleCircle c₁ r₁ c₂ r₂ contact) = lit≤ tt
+two-at-most (Equation.LineArcAt l c p) = lit≤ tt
+two-at-most (Equation.ArcArcAt c₁ c₂ p) = lit≤ tt
+two-at-most (Equation.Midpoint p l) = lit≤ tt
+two-at-most (Equation.ArcMidpoint p c f t) = lit≤ tt
+two-at-most (Equation.Symmetric p q l) = lit≤ tt
+two-at-most (Equation.EqualRadius c₁ f₁ c₂ f₂) = lit≤ tt
+
+module _ (es : List Active) (items : List ℕ) (n i rows : ℕ) (room : n ≤ length items) (h : i < n) (R : ℕ) (t : fold (moreRows es) rows (drop i (take n items)) ≡ R) where
+  pub more-rows : (r : ℕ) (q : Equation) → r ≡ rowsOf q → q ≡ equationAt es (getD items i 0) → fold (moreRows es) (rows + r) (drop (i + 1) (take n items)) ≡ R
   unfolding moreRows
-  more-rows r q a b = turn-next l n i e (moreRows es) rows (rows + r) R h (ap (λ m. rows + m) (a ∙ ap rowsOf b)) t
+  more-rows r q a b =
+      fold-next 0 (moreRows es) (take n items) i rows (rows + r) R (rw (length-take-le n items room) h)
+      (ap (λ m. rows + m) (a ∙ ap rowsOf (b ∙ ap (equationAt es) (sym (getD-take n items i 0 h))))) t
 
   -- past the last equation there is `Held`
-  pub no-row : length es ≤ getD (l .items) i 0 → fold (moreRows es) rows (drop (i + 1) (numbersOf l)) ≡ R
+  pub no-row : length es ≤ getD items i 0 → fold (moreRows es) rows (drop (i + 1) (take n items)) ≡ R
   unfolding rowsOf
   no-row past = (rw add-zero at (more-rows 0 Equation.Held refl (held es _ past)))
+
+pub counted : (es : List Active) (l : Listed) (n i rows : ℕ) → n ≡ length (numbersOf l) → n ≤ i
+    → fold (moreRows es) rows (drop i (take n (l .items))) ≡ fold (moreRows es) 0 (take n (l .items)) → rows ≡ rowCount es (numbersOf l)
+unfolding rowCount
+counted es l n i rows e h t =
+    fold-done (moreRows es) (take n (l .items)) i rows _ (omega (arith, length-take n (l .items))) t
+    ∙ ap (fold (moreRows es) 0) (ap (λ m. take m (l .items)) e ∙ take-again (l .count) (l .items))

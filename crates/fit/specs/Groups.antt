@@ -57,7 +57,7 @@ module _ (b : Build) (gr : Grouping) (g : ℕ) where
   outcomeWithout k = outcomeIn b frameIn (withoutOf k (equationsIn gr g))
 
   -- equation k is a suspect exactly when it is one of the group's and the group without it converges: `suspects-exactly`
-  -- (proofs/Suspects.antt)
+  -- (proofs/SuspectsTheorem.antt)
   abbrev pub SuspectsExactly : Type 0
   SuspectsExactly = (k : ℕ) → k < 40 → getD suspectsAt k false ≡ true ↔ List·Memᴰ k (equationsIn gr g) × (converges (outcomeWithout k) ≡ true)
 
@@ -66,7 +66,7 @@ module _ (b : Build) (gr : Grouping) (g : ℕ) where
   residualsAt x k = map (λ (row : Row). row .value) (rowsAt (b .equations) (b .lines) (frameIn .places) x k)
 
   -- fitted means fitted: at the coordinates of a group that converged, every residual of every of its equations is finite and of
-  -- magnitude at most 1e-12: `fitted-holds` (proofs/Fitted.antt)
+  -- magnitude at most 1e-12: `fitted-holds` (proofs/MeansFitted.antt)
   abbrev pub FittedHolds : Type 0
   FittedHolds = (x : List Float) (i t : ℕ) → outcomeAt ≡ converged x i t → (k : ℕ) → List·Memᴰ k (equationsIn gr g) → AllWithin 1e-12 (residualsAt x k)
 

@@ -9,6 +9,7 @@
 --     Few        there are at most 40 groups
 --     Rowed      no group of a build that passes has more than 64 rows
 --     Theorem    each number exactly when its row says
+--     Sentences  what a user would say of a job
 pub mod Laying
 pub mod Refusing
 pub mod Freeing
@@ -19,3 +20,4 @@ pub mod Ending
 pub mod Few
 pub mod Rowed
 pub mod Theorem
+pub mod Sentences

@@ -238,7 +238,7 @@ module _ (b : Build) where
   fails-of (fits d) e s = let z = apart s (all-of d e) in cc
   fails-of (fails j i t) e s = refl
 
-  fails-some : SomeFails b → unfit (fitOf b) ≡ true
+  pub fails-some : SomeFails b → unfit (fitOf b) ≡ true
   fails-some s = fails-of (fitOf b) refl s
 
   fit-of : (R : Result) → fitOf b ≡ R → unfit R ≡ false → AllFit b

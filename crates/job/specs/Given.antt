@@ -59,22 +59,6 @@ pub record GivenExactly (b : Build) (out p q r : ℕ) : Type 0 where
   pub fitted : numberIn b out p q r ≡ 0 ↔ Sound b out p q r × AllFit b
   pub not-of-text : (numberIn b out p q r ≢ 1) × (numberIn b out p q r ≢ 2)
 
--- equation k is in group g, which converged at x, and its residuals there are within the tolerance
-pub record Holds (b : Build) (k : ℕ) : Type 0 where
-  pub group : ℕ
-  pub x : List Float
-  pub iterations : ℕ
-  pub tries : ℕ
-  pub listed : List·Memᴰ k (equationsIn (groupingOf b) group)
-  pub fit : outcomeAt b (groupingOf b) group ≡ converged x iterations tries
-  pub within : AllWithin 1e-12 (residualsAt b (groupingOf b) group x k)
-
--- group g is the lowest that does not converge
-pub record Failing (b : Build) (g : ℕ) : Type 0 where
-  pub group : g < groupingOf b .count
-  pub fails : fitsAt b g ≡ false
-  pub earlier : (l : ℕ) → l < g → fitsAt b l ≡ true
-
 -- the failing group is the lowest that does not converge, with its own counts
 abbrev pub LowestFails : Build → Type 0
 LowestFails b = (j i t : ℕ) → fitOf b ≡ fails j i t
@@ -84,14 +68,3 @@ LowestFails b = (j i t : ℕ) → fitOf b ≡ fails j i t
 abbrev pub HandsOutNothing : Build → Type 0
 HandsOutNothing b = (out p q r : List Float) → numberIn b (length out) (length p) (length q) (length r) ≢ 0
     → outputAfter b out (verdict b out p q r) ≡ out
-
--- fitted means fitted: in a job that ends in 0 every equation that touches a point is in a group that converged, and each of its
--- residuals at the group's fitted coordinates is finite and of magnitude at most 1e-12
-abbrev pub FittedMeansFitted : Build → ℕ → ℕ → ℕ → ℕ → Type 0
-FittedMeansFitted b out p q r = numberIn b out p q r ≡ 0 → (k point : ℕ) → Touches (touchedBy b) k point → Holds b k
-
--- equation k is marked exactly when it is in the failing group and the group without it converges
-abbrev pub SuspectsMarked : Build → ℕ → ℕ → ℕ → ℕ → Type 0
-SuspectsMarked b out p q r = numberIn b out p q r ≡ 7 → (g : ℕ) × Failing b g × ((k : ℕ) → k < 40
-    → getD (answerAfter b (verdictOf b out p q r) .suspects) k false ≡ true
-    ↔ List·Memᴰ k (equationsIn (groupingOf b) g) × (converges (outcomeWithout b (groupingOf b) g k) ≡ true))

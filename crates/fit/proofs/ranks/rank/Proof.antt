@@ -1,5 +1,6 @@
 -- Assumes nothing.
 use Prim.Native.Nat.{_*_}
+use native.Mathlib.Omega.{arith}
 use lib.ListN.{length}
 use Rattle.loops.specs.Parts.{front}
 use Rattle.rounds.proofs.Begins.{table-fits, fits-in}
@@ -11,7 +12,7 @@ use Rattle.fit.proofs.ranks.rank.Tie as tie
 mul-size : tie.Need-mul-size
 mul-size c =
     let s = c .before .before .before in
-    table-fits (s .args .rows) (s .args .nf) (s .pre .0) (s .pre .1)
+    table-fits (s .args .rows) (s .args .nf) (omega (arith, s .pre .0)) (s .pre .1)
 
 mul-square : tie.Need-mul-square
 mul-square c =
@@ -21,22 +22,22 @@ mul-square c =
 slice-reshare-prefix-null-space : tie.Need-slice-reshare-prefix-null-space
 slice-reshare-prefix-null-space c =
     let s = c .before .before .before in
-    fits-in (s .args .rows) (s .args .nf) (length (s .args .p .now)) (s .pre .0) (s .pre .1) (s .pre .2)
+    fits-in (s .args .rows) (s .args .nf) (length (s .args .p .now)) (omega (arith, s .pre .0)) (s .pre .1) (s .pre .2)
 
 slice-aggregate-null-space : tie.Need-slice-aggregate-null-space
 slice-aggregate-null-space c =
     let s = c .before .before .before .before in
-    front (s .args .rows * s .args .nf) (s .args .p .now) (fits-in (s .args .rows) (s .args .nf) (length (s .args .p .now)) (s .pre .0) (s .pre .1) (s .pre .2))
+    front (s .args .rows * s .args .nf) (s .args .p .now) (fits-in (s .args .rows) (s .args .nf) (length (s .args .p .now)) (omega (arith, s .pre .0)) (s .pre .1) (s .pre .2))
 
 slice-relend-prefix-clear : tie.Need-slice-relend-prefix-clear
 slice-relend-prefix-clear c =
     let s = c .before .before .before .before .before .before .before .before .before .before .before in
-    fits-in (s .args .rows) (s .args .nf) (length (s .args .p .now)) (s .pre .0) (s .pre .1) (s .pre .2)
+    fits-in (s .args .rows) (s .args .nf) (length (s .args .p .now)) (omega (arith, s .pre .0)) (s .pre .1) (s .pre .2)
 
 slice-aggregate-clear : tie.Need-slice-aggregate-clear
 slice-aggregate-clear c =
     let s = c .before .before .before .before .before .before .before .before .before .before .before .before in
-    front (s .args .rows * s .args .nf) (s .args .p .now) (fits-in (s .args .rows) (s .args .nf) (length (s .args .p .now)) (s .pre .0) (s .pre .1) (s .pre .2))
+    front (s .args .rows * s .args .nf) (s .args .p .now) (fits-in (s .args .rows) (s .args .nf) (length (s .args .p .now)) (omega (arith, s .pre .0)) (s .pre .1) (s .pre .2))
 
 slice-relend-prefix-clear-2 : tie.Need-slice-relend-prefix-clear-2
 slice-relend-prefix-clear-2 c =

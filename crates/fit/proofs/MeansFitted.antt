@@ -12,7 +12,6 @@ use Rattle.groups.specs.declared.Grouping.{Grouping}
 use Rattle.members.specs.Movable.{indicesOf}
 use Rattle.rounds.specs.Holds.{fit-holds}
 use Rattle.rounds.specs.Problem.{rowCount, jacobianAt, problemOf, rowsFor, valuesAt}
-use Rattle.rounds.specs.Solve.{converged, within}
 use Rattle.rows.specs.Column.{rowsAt}
 use Rattle.rows.specs.Entries.{Row}
 use Rattle.sketch.specs.declared.Build.{Build}
@@ -26,11 +25,11 @@ value row = row .value
 
 in-left : {A : Type 0} {a : A} (s t : List A) → List·Memᴰ a s → List·Memᴰ a (s ++ t)
 in-left [] t m = absurd (List·Memᴰ·not-nil m)
-in-left {A} {a} (x ∷ s) t m = of (List·Memᴰ·cases-cons m)
+in-left {A} {a} (x ∷ s) t m = of (List·Memᴰ·cases-cons m) (in-left s t)
   where
-    of : (a ≡ x) ⊎ List·Memᴰ a s → List·Memᴰ a (x ∷ s ++ t)
-    of (inl e) = List·Memᴰ·head e
-    of (inr n) = List·Memᴰ·tail (in-left s t n)
+    of : (a ≡ x) ⊎ List·Memᴰ a s → (List·Memᴰ a s → List·Memᴰ a (s ++ t)) → List·Memᴰ a (x ∷ s ++ t)
+    of (inl e) later = List·Memᴰ·head e
+    of (inr n) later = List·Memᴰ·tail (later n)
 
 in-right : {A : Type 0} {a : A} (s t : List A) → List·Memᴰ a t → List·Memᴰ a (s ++ t)
 in-right [] t m = m
@@ -40,15 +39,15 @@ in-right (x ∷ s) t m = List·Memᴰ·tail (in-right s t m)
 among : (f : ℕ → List Row) (k : ℕ) (v : Float) (ks : List ℕ) → List·Memᴰ k ks → List·Memᴰ v (map value (f k)) → List·Memᴰ v (map value (flatMap f ks))
 unfolding flatMap
 among f k v [] m i = absurd (List·Memᴰ·not-nil m)
-among f k v (a ∷ ks) m i = rw (map-append value (f a) (flatMap f ks)) (of (List·Memᴰ·cases-cons m))
+among f k v (a ∷ ks) m i = rw (map-append value (f a) (flatMap f ks)) (of (List·Memᴰ·cases-cons m) (λ n. among f k v ks n i))
   where
-    of : (k ≡ a) ⊎ List·Memᴰ k ks → List·Memᴰ v (map value (f a) ++ map value (flatMap f ks))
-    of (inl e) = in-left (map value (f a)) (map value (flatMap f ks)) (rw (← e) i)
-    of (inr n) = in-right (map value (f a)) (map value (flatMap f ks)) (among f k v ks n i)
+    of : (k ≡ a) ⊎ List·Memᴰ k ks → (List·Memᴰ k ks → List·Memᴰ v (map value (flatMap f ks))) → List·Memᴰ v (map value (f a) ++ map value (flatMap f ks))
+    of (inl e) later = in-left (map value (f a)) (map value (flatMap f ks)) (rw (← e) i)
+    of (inr n) later = in-right (map value (f a)) (map value (flatMap f ks)) (later n)
 
 module _ (b : Build) (gr : Grouping) (g : ℕ) where
   pub fitted-holds : FittedHolds b gr g
-  unfolding within valuesAt rowsFor ofBits
+  unfolding valuesAt rowsFor ofBits
   fitted-holds x i t e k m v n =
       let f = frameIn b gr g in
       let own = equationsIn gr g in

@@ -44,11 +44,12 @@ module _ (b : Build) (f : Frame) (k : ℕ) where
   marked : (l : List ℕ) (marks : List Bool) → k < length marks → List·Memᴰ k l → getD (fold (mark b f) marks l) k false ≡ suspect b f k
   unfolding fold
   marked [] marks h m = absurd (List·Memᴰ·not-nil m)
-  marked (a ∷ l) marks h m = of (List·Memᴰ·cases-cons m)
+  marked (a ∷ l) marks h m = of (List·Memᴰ·cases-cons m) (marked l (mark b f marks a) (long marks a h))
     where
-      of : (k ≡ a) ⊎ List·Memᴰ k l → getD (fold (mark b f) (mark b f marks a) l) k false ≡ suspect b f k
-      of (inl e) = stays l (mark b f marks a) (long marks a h) (same marks a h e)
-      of (inr n) = marked l (mark b f marks a) (long marks a h) n
+      of : (k ≡ a) ⊎ List·Memᴰ k l → (List·Memᴰ k l → getD (fold (mark b f) (mark b f marks a) l) k false ≡ suspect b f k)
+          → getD (fold (mark b f) (mark b f marks a) l) k false ≡ suspect b f k
+      of (inl e) later = stays l (mark b f marks a) (long marks a h) (same marks a h e)
+      of (inr n) later = later n
 
   -- and nothing else is marked
   listed : (l : List ℕ) (marks : List Bool) → getD (fold (mark b f) marks l) k false ≡ true → List·Memᴰ k l ⊎ (getD marks k false ≡ true)

@@ -1,0 +1,72 @@
+-- `fitted-means-fitted` and `suspects-marked` (specs/Sentences.antt). Assumes nothing.
+use Prim.Native.Nat.{ℕ}
+use mathlib.Core.Bool.{Bool, true, false}
+use mathlib.Core.List.{List}
+use mathlib.Core.Path.{_≡_, refl}
+use native.Mathlib.Omega.{arith}
+use lib.Ieee.{Float}
+use Rattle.fit.proofs.MeansFitted.{fitted-holds}
+use Rattle.fit.proofs.SuspectsTheorem.{suspects-exactly}
+use Rattle.fit.specs.Fits.{converges}
+use Rattle.fit.specs.Groups.{outcomeAt, suspectsAt}
+use Rattle.groups.proofs.Theorem.{groups-are-chains}
+use Rattle.groups.specs.Listed.{groupingOf}
+use Rattle.rounds.specs.Solve.{Outcome, converged, failed}
+use Rattle.sketch.proofs.Given as checked
+use Rattle.sketch.specs.Check.{checkOf}
+use Rattle.sketch.specs.declared.Build.{Build}
+use Rattle.sketch.specs.declared.Checked.{Checked}
+use Rattle.sketch.specs.declared.Checked.the-variants.{Passes}
+use Rattle.job.specs.Given.{Sound}
+use Rattle.job.specs.Groups.{Result, fits, fails, fitOf}
+use Rattle.job.specs.Promise.{verdictOf, answerAfter, unfit}
+use Rattle.job.specs.Sentences.{Failing, FittedMeansFitted, SuspectsMarked}
+use Rattle.job.proofs.Theorem.{given-exactly, lowest-fails, fails-some}
+
+outcome-of : (o : Outcome) → converges o ≡ true → (x : List Float) × (i : ℕ) × (t : ℕ) × (o ≡ converged x i t)
+outcome-of (converged x i t) h = (x, i, t, refl)
+outcome-of (failed i t) h = let z : _≡_ {A = ℕ} 0 1 = cc in absurd (omega arith)
+
+failure-of : (R : Result) → unfit R ≡ true → (j : ℕ) × (i : ℕ) × (t : ℕ) × (R ≡ fails j i t)
+failure-of (fits d) h = let z : _≡_ {A = ℕ} 0 1 = cc in absurd (omega arith)
+failure-of (fails j i t) h = (j, i, t, refl)
+
+module _ (b : Build) where
+  failing : (j i t : ℕ) → fitOf b ≡ fails j i t → Failing b j
+  failing j i t e =
+      let l = lowest-fails b j i t e in
+      record { group = l .0; unfitted = rw (l .1); earlier = l .2 }
+
+  marks-are : (v : Checked) (j i t : ℕ) → v ≡ Passes → fitOf b ≡ fails j i t → answerAfter b v .suspects ≡ suspectsAt b (groupingOf b) j
+  marks-are v j i t e f = rw (e, f)
+
+  module _ (out p q r : ℕ) where
+    passes : Sound b out p q r → checkOf b ≡ Passes
+    passes s = checked.given-exactly b .passes .1 (s .counts, s .numbers, s .items, s .rows)
+
+    verdict-passes : Sound b out p q r → verdictOf b out p q r ≡ Passes
+    unfolding verdictOf
+    verdict-passes s = rw (s .counts, s .room) (passes s)
+
+    pub fitted-means-fitted : FittedMeansFitted b out p q r
+    fitted-means-fitted h k point touches =
+        let s = given-exactly b out p q r .fitted .0 h in
+        let c = groups-are-chains b (passes (s .0)) in
+        let at = c .point-listed point (k, touches) in
+        let m = c .equation-listed k point (at .0) touches (at .2) in
+        let o = outcome-of (outcomeAt b (groupingOf b) (at .0)) (s .1 (at .0) (at .1)) in
+        record {
+          group = at .0;
+          x = o .0;
+          iterations = o .1;
+          tries = o .2;
+          listed = m;
+          fit = o .3;
+          within = fitted-holds b (groupingOf b) (at .0) (o .0) (o .1) (o .2) (o .3) k m;
+        }
+
+    pub suspects-marked : SuspectsMarked b out p q r
+    suspects-marked h =
+        let s = given-exactly b out p q r .seven .0 h in
+        let f = failure-of (fitOf b) (fails-some b (s .1)) in
+        (f .0, failing (f .0) (f .1) (f .2) (f .3), λ k few. rw (marks-are (verdictOf b out p q r) (f .0) (f .1) (f .2) (verdict-passes (s .0)) (f .3)) (suspects-exactly b (groupingOf b) (f .0) k few))
