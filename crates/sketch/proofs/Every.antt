@@ -1,6 +1,7 @@
 -- What holds of each of a list. Assumes nothing.
 --     every-append, every-flat    over a list that is made of lists
---     every-true, every-of        it holds of all, so of one
+--     every-true                  over a list of all that there is
+--     every-cons, every-of        it holds of each, so of one
 --     every-not, not-every        it fails where it fails of one
 use mathlib.Core.Bool.{Bool, true, false, cond, _&&_}
 use mathlib.Core.List.{List, [], _∷_, _++_, flatMap, List·Memᴰ, List·Memᴰ·head, List·Memᴰ·tail, List·Memᴰ·not-nil, List·Memᴰ·cases-cons}
@@ -43,15 +44,21 @@ module _ {A : Type 0} (p : A → Bool) where
       go true q e r = let s = r e in (s .0, List·Memᴰ·tail (s .1), s .2)
       go false q e r = (x, List·Memᴰ·head refl, q)
 
-  pub every-of : (l : List A) (x : A) → every p l ≡ true → List·Memᴰ x l → p x ≡ true
+  pub every-cons : (x : A) (l : List A) → every p (x ∷ l) ≡ true → (p x ≡ true) × (every p l ≡ true)
   unfolding every
-  every-of [] x e m = absurd (List·Memᴰ·not-nil m)
-  every-of (y ∷ l) x e m = go (p y) refl e (List·Memᴰ·cases-cons m) (every-of l x)
+  every-cons x l = go (p x)
     where
-      go : (b : Bool) → p y ≡ b → cond b (every p l) false ≡ true → (x ≡ y) ⊎ List·Memᴰ x l → (every p l ≡ true → List·Memᴰ x l → p x ≡ true) → p x ≡ true
-      go true q e (inl i) r = rw i q
-      go true q e (inr i) r = r e i
-      go false q e c r = absurd (subst T (sym e) tt)
+      go : (b : Bool) → cond b (every p l) false ≡ true → (b ≡ true) × (every p l ≡ true)
+      go true e = (refl, e)
+      go false e = absurd (subst T (sym e) tt)
+
+  pub every-of : (l : List A) (x : A) → every p l ≡ true → List·Memᴰ x l → p x ≡ true
+  every-of [] x e m = absurd (List·Memᴰ·not-nil m)
+  every-of (y ∷ l) x e m = go (List·Memᴰ·cases-cons m) (every-of l x (every-cons y l e .1))
+    where
+      go : (x ≡ y) ⊎ List·Memᴰ x l → (List·Memᴰ x l → p x ≡ true) → p x ≡ true
+      go (inl i) r = rw i (every-cons y l e .0)
+      go (inr i) r = r i
 
   pub not-every : (l : List A) (x : A) → List·Memᴰ x l → p x ≡ false → every p l ≡ false
   not-every l x m f = go (every p l) refl

@@ -2,8 +2,11 @@
 use mathlib.Core.Bool.{Bool, true, false, _&&_}
 use mathlib.Core.List.{[], _∷_, _++_}
 use mathlib.Core.Path.{_≡_, refl, sym, ap, _∙_}
+use borrow.Author.Tests.{not-false}
+use Rattle.loops.specs.Picks.{both}
 use Rattle.loops.specs.Turns.{every}
 use Rattle.plane.specs.declared.Vec2.{Vec2}
+use Rattle.sketch.specs.Check.{refersToNothing}
 use Rattle.sketch.specs.Fields.{Field, size, placeFields, stateFields, pointFields, lineFields, equationFields, measureFields, buildFields}
 use Rattle.sketch.specs.Indices.{foundIn, foundLine, foundActive, foundMeasured, foundBuild}
 use Rattle.sketch.specs.Numbers.{sized, boundedField, boundedVec, boundedPoint, boundedActive, boundedMeasured, boundedBuild}
@@ -94,3 +97,14 @@ module _ (b : Build) where
       without-points _ (points b (foundIn b)) _ _ _ head-found
       (every-true (λ a. every (foundIn b) (pointFields a)) (pointsOf b) (λ p. state-found (p .start) (p .state)))
       ∙ sym (apart b (foundIn b))
+
+  pub found-lists : refersToNothing b ≡ false
+      → (every (foundLine (b .«point_count»)) (linesOf b) ≡ true)
+      × (every (foundActive (b .«point_count») (b .«line_count»)) (equationsOf b) ≡ true)
+      × (every (foundMeasured (b .«point_count») (b .«line_count»)) (measuresOf b) ≡ true)
+  found-lists h =
+      let l = every (foundLine (b .«point_count»)) (linesOf b) in
+      let e = every (foundActive (b .«point_count») (b .«line_count»)) (equationsOf b) in
+      let t = both (l && e) (every (foundMeasured (b .«point_count») (b .«line_count»)) (measuresOf b)) (found-whole ∙ not-false (foundBuild b) h) in
+      let u = both l e (t .0) in
+      (u .0, u .1, t .1)
