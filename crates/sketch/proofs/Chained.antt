@@ -1,6 +1,5 @@
--- The fields of an item as the code looks at them: the tests of those that are looked at, joined one after another. Assumes nothing.
---     chain                          such a row of tests, as a number 4 or 5 is defined
---     bounded-chain, found-chain     for the two numbers
+-- `bounded-chain`, `found-chain`: an item's fields as the code looks at them, which joins the tests of those that have one, is what 4 and
+-- 5 ask of all of them. Assumes nothing.
 use mathlib.Core.Bool.{Bool, true, false, cond, _&&_}
 use mathlib.Core.List.{List, [], _∷_, _++_}
 use mathlib.Core.Path.{_≡_, refl, sym, _∙_}
@@ -15,11 +14,11 @@ abbrev also : Bool → List Bool → Bool
 also t [] = t
 also t (u ∷ ts) = also (t && u) ts
 
-abbrev pub all : List Bool → Bool
+abbrev all : List Bool → Bool
 all [] = true
 all (t ∷ ts) = also t ts
 
-abbrev pub tests : {A : Type 0} → (A → List Bool) → List A → List Bool
+abbrev tests : {A : Type 0} → (A → List Bool) → List A → List Bool
 tests q [] = []
 tests q (x ∷ l) = q x ++ tests q l
 
@@ -54,10 +53,10 @@ module _ {A : Type 0} (p : A → Bool) (q : A → List Bool) (alike : (x : A) �
       go true = refl
       go false = refl
 
-  pub chain : (l : List A) → all (tests q l) ≡ every p l
+  chain : (l : List A) → all (tests q l) ≡ every p l
   chain l = all-is (tests q l) ∙ each l
 
-abbrev pub bounds : Field → List Bool
+abbrev bounds : Field → List Bool
 bounds (point p) = []
 bounds (line l) = []
 bounds (value v) = bounded v ∷ []
@@ -82,7 +81,7 @@ pub bounded-chain : {r : Bool} (l : List Field) → r ≡ all (tests bounds l) �
 bounded-chain l e = e ∙ chain boundedField bounds bounds-are l
 
 module _ (n m : ℕ) where
-  abbrev pub finds : Field → List Bool
+  abbrev finds : Field → List Bool
   finds (point p) = isPoint n p ∷ []
   finds (line l) = isLine m l ∷ []
   finds (value v) = []
@@ -103,8 +102,5 @@ module _ (n m : ℕ) where
   finds-are (radius r) = one (foundRad n r)
   finds-are (contact k) = refl
 
-  pub found-chain : (l : List Field) → all (tests finds l) ≡ every (foundField n m) l
-  found-chain = chain (foundField n m) finds finds-are
-
-  pub found-by : {r : Bool} (l : List Field) → r ≡ all (tests finds l) → r ≡ every (foundField n m) l
-  found-by l e = e ∙ found-chain l
+  pub found-chain : {r : Bool} (l : List Field) → r ≡ all (tests finds l) → r ≡ every (foundField n m) l
+  found-chain l e = e ∙ chain (foundField n m) finds finds-are l

@@ -6,14 +6,12 @@ use Prim.Native.Nat.{ℕ}
 use lib.Ieee.{Float}
 use Rattle.plane.specs.declared.Vec2.{Vec2}
 use Rattle.sketch.specs.Parts.{pointsOf, linesOf, equationsOf, measuresOf}
-use Rattle.sketch.specs.declared.Active.{Active}
 use Rattle.sketch.specs.declared.Build.{Build}
 use Rattle.sketch.specs.declared.Contact.{Contact}
 use Rattle.sketch.specs.declared.Equation.{Equation}
 use Rattle.sketch.specs.declared.Line.{Line}
 use Rattle.sketch.specs.declared.LineNo.{LineNo}
 use Rattle.sketch.specs.declared.Measure.{Measure}
-use Rattle.sketch.specs.declared.Measured.{Measured}
 use Rattle.sketch.specs.declared.Point.{Point}
 use Rattle.sketch.specs.declared.PointNo.{PointNo}
 use Rattle.sketch.specs.declared.Rad.{Rad}
