@@ -1,6 +1,6 @@
 -- The check on both sides of each line: worked cases, which compute.
 use mathlib.Core.Path.{_≡_, refl}
-use mathlib.Core.List.{List, [], _∷_, map, flatMap}
+use mathlib.Core.List.{List, [], _∷_, _++_, map, flatMap}
 use Prim.Native.Nat.{ℕ}
 use lib.Ieee.{Float, nan, le, lt, eq, neg, ofBits}
 use lib.ListN.{replicate}
@@ -56,8 +56,8 @@ no-size : checkOf (build zero⁺ 1 0 0 Held) ≡ Ends OutOfBounds
 unfolding build checkOf origin le lt eq neg ofBits every flatMap fold
 no-size = refl
 
--- Each number, side, axis and contact of an equation and of a measure, which is none: a side is 1 or −1, an axis 0 or 1. The same
--- items pass where it is one.
+-- Every number, side, axis and contact of the equations and of the measures, in turn: a NaN, a side that is neither 1 nor −1 and an axis
+-- that is neither 0 nor 1 end in 4, and the same items with good ones pass.
 abbrev line : LineNo
 line = record { 0 = 0 }
 
@@ -93,20 +93,23 @@ bad-equations : map (λ e. checkOf (build one 1 1 1 e)) (equations nan half 2) �
 unfolding build checkOf equations origin le lt eq neg ofBits every flatMap fold
 bad-equations = refl
 
-bad-sides : map (λ e. checkOf (build one 1 1 1 e)) (equations nan nan 2) ≡ replicate 14 (Ends OutOfBounds)
+nan-sides : map (λ e. checkOf (build one 1 1 1 e)) (equations nan nan 2) ≡ replicate 14 (Ends OutOfBounds)
 unfolding build checkOf equations origin le lt eq neg ofBits every flatMap fold
-bad-sides = refl
+nan-sides = refl
 
 good-equations : map (λ e. checkOf (build one 1 1 1 e)) (equations million (neg one) 1) ≡ replicate 14 Passes
 unfolding build checkOf equations origin le lt eq neg ofBits every flatMap fold moreRows rowsOf
 good-equations = refl
 
-bad-measures : map (λ d. checkOf (sample origin one (blankPoint ∷ []) (noLine ∷ []) [] (record { measure = d } ∷ []))) (measures half 2) ≡ replicate 3 (Ends OutOfBounds)
-unfolding measures checkOf origin le lt eq neg ofBits every flatMap fold
+measured : Measure → Build
+measured d = sample origin one (blankPoint ∷ []) (noLine ∷ []) [] (record { measure = d } ∷ [])
+
+bad-measures : map (λ d. checkOf (measured d)) (measures half 2 ++ measures nan 2) ≡ replicate 6 (Ends OutOfBounds)
+unfolding measured measures checkOf origin le lt eq neg ofBits every flatMap fold
 bad-measures = refl
 
-good-measures : map (λ d. checkOf (sample origin one (blankPoint ∷ []) (noLine ∷ []) [] (record { measure = d } ∷ []))) (measures (neg one) 1) ≡ replicate 3 Passes
-unfolding measures checkOf origin le lt eq neg ofBits every flatMap fold
+good-measures : map (λ d. checkOf (measured d)) (measures (neg one) 1) ≡ replicate 3 Passes
+unfolding measured measures checkOf origin le lt eq neg ofBits every flatMap fold
 good-measures = refl
 
 -- 4 before 5: a NaN in an equation whose points are not there
