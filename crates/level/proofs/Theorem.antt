@@ -1,23 +1,25 @@
 -- Over every build that passes the check before the fit: each point that is not fixed takes, on both axes, the coordinate of its
 -- run's root, and nothing else changes. Assumes nothing.
 use Prim.Native.Nat.{ℕ, zero, suc, _≤_, _<_}
-use mathlib.Core.Bool.{Bool, true, false, cond, _&&_}
-use mathlib.Core.List.{List, [], _∷_, List·Memᴰ, List·Memᴰ·not-nil, List·Memᴰ·cases-cons}
-use mathlib.Core.Logic.{_⊎_, inl, inr, _≢_}
-use mathlib.Core.Path.{_≡_, refl, sym, _∙_, subst}
+use mathlib.Core.Bool.{Bool, true, false, cond}
+use mathlib.Core.List.{List}
+use mathlib.Core.Logic.{_≢_}
+use mathlib.Core.Path.{_≡_, sym, _∙_}
 use native.Mathlib.Nat.{min-eq-left}
 use native.Mathlib.Omega.{arith}
-use borrow.Author.Tests.{ltb-true, not-false}
-use lib.Dec.{T, eqb}
+use borrow.Author.Tests.{ltb-true}
+use lib.Dec.{eqb}
 use lib.Ieee.{Float, nan}
 use lib.ListN.{length, getD, length-map}
-use Rattle.loops.specs.Picks.{both}
 use Rattle.loops.specs.Turns.{turns, upTo, every}
+use Rattle.sketch.proofs.Every.{every-cons, every-of}
+use Rattle.sketch.proofs.Given.{given-exactly}
+use Rattle.sketch.proofs.Wholes.{found-lists}
 use Rattle.sketch.proofs.Within.{within}
 use Rattle.sketch.specs.Check.{checkOf}
-use Rattle.sketch.proofs.Given.{given-exactly}
-use Rattle.sketch.specs.Indices.{isPoint, foundLine, foundEquation, foundActive, foundMeasured, foundBuild}
-use Rattle.sketch.specs.Parts.{linesOf, equationsOf, measuresOf}
+use Rattle.sketch.specs.Fields.{point}
+use Rattle.sketch.specs.Indices.{foundField, foundEquation, foundActive}
+use Rattle.sketch.specs.Parts.{equationsOf}
 use Rattle.sketch.specs.declared.Active.{Active}
 use Rattle.sketch.specs.declared.Build.{Build}
 use Rattle.sketch.specs.declared.Checked.the-variants.{Passes}
@@ -29,17 +31,6 @@ use Rattle.level.specs.Runs.{Tied, Levelled}
 use Rattle.level.proofs.Forest.{fixedAt}
 use Rattle.level.proofs.Roots.{runRoot, run-has, run-root}
 use Rattle.level.proofs.Takes.{sweep-sized, sweep-taken, sweep-kept, sweep-other}
-
--- what holds of every element holds of one
-every-of : {A : Type 0} (p : A → Bool) (l : List A) (x : A) → every p l ≡ true → List·Memᴰ x l → p x ≡ true
-unfolding every
-every-of p [] x e m = absurd (List·Memᴰ·not-nil m)
-every-of p (y ∷ l) x e m = go (p y) refl e (List·Memᴰ·cases-cons m) (λ d f. every-of p l x d f)
-  where
-    go : (b : Bool) → p y ≡ b → cond b (every p l) false ≡ true → (x ≡ y) ⊎ List·Memᴰ x l → (every p l ≡ true → List·Memᴰ x l → p x ≡ true) → p x ≡ true
-    go true q e (inl i) r = rw i q
-    go true q e (inr i) r = r e i
-    go false q e c r = absurd (subst T (sym e) tt)
 
 no : (n a b : ℕ) → nothing ≡ levels a b → (a < n) × (b < n)
 no n a b h = let z : _≡_ {A = ℕ} 0 1 = cc in absurd (omega arith)
@@ -53,8 +44,9 @@ module _ (axis n m a b : ℕ) where
   asked-found : (e : Equation) → foundEquation n m e ≡ true → asksOf axis e ≡ levels a b → (a < n) × (b < n)
   asked-found (Equation.Coincident c d) g h = no n a b h
   asked-found (Equation.Level c d ax) g h =
-      let t = both (isPoint n c) (isPoint n d) g in
-      level-found (eqb ax axis) (c .0) (d .0) h (ltb-true (c .0) n (t .0), ltb-true (d .0) n (t .1))
+      let t = every-cons (foundField n m) (point c) _ g in
+      let u = every-cons (foundField n m) (point d) _ (t .1) in
+      level-found (eqb ax axis) (c .0) (d .0) h (ltb-true (c .0) n (t .0), ltb-true (d .0) n (u .0))
   asked-found (Equation.Parallel i j) g h = no n a b h
   asked-found (Equation.Perpendicular i j) g h = no n a b h
   asked-found (Equation.Collinear i j) g h = no n a b h
@@ -134,12 +126,7 @@ module _ (b : Build) (array : length (b .points) ≤ 40) (passes : checkOf b ≡
   count = within b (given-exactly b .passes .0 passes .0) .0
 
   found : every (foundActive (b .«point_count») (b .«line_count»)) (equationsOf b) ≡ true
-  found =
-      let lines = every (foundLine (b .«point_count»)) (linesOf b) in
-      let equations = every (foundActive (b .«point_count») (b .«line_count»)) (equationsOf b) in
-      let measures = every (foundMeasured (b .«point_count») (b .«line_count»)) (measuresOf b) in
-      let all = not-false (foundBuild b) (given-exactly b .passes .0 passes .2) in
-      both lines equations (both (lines && equations) measures all .0) .1
+  found = found-lists b (given-exactly b .passes .0 passes .2) .1
 
   small : (axis p q : ℕ) → Tied axis (equationsOf b) p q → (p < 40) × (q < 40)
   small axis p q t =

@@ -1,7 +1,8 @@
--- The points an equation touches, in the Rust's order (equations.rs, `involved`): a line equation both its line's ends,
--- held none.
+-- The points an equation touches, in the Rust's order (equations.rs, `involved`): those of its fields one after another, of a line both
+-- ends. Held touches none.
 use mathlib.Core.List.{List, [], _∷_, _++_}
 use lib.ListN.{length, getD}
+use Rattle.sketch.specs.Fields.{Field, point, line, value, size, axis, side, radius, contact, equationFields}
 use Rattle.sketch.specs.declared.Equation.{Equation}
 use Rattle.sketch.specs.declared.Line.{Line}
 use Rattle.sketch.specs.declared.LineNo.{LineNo}
@@ -23,32 +24,26 @@ lineAt ls l = getD ls (l .0) noLine
 abbrev pub ends : List Line → LineNo → List PointNo
 ends ls l = lineAt ls l .from ∷ lineAt ls l .to ∷ []
 
-abbrev pub centred : PointNo → Rad → List PointNo
-centred c (Rad.Point p) = c ∷ p ∷ []
-centred c (Rad.Value v) = c ∷ []
+abbrev pub onCircle : Rad → List PointNo
+onCircle (Rad.Point p) = p ∷ []
+onCircle (Rad.Value v) = []
+
+abbrev pub pointsIn : List Line → Field → List PointNo
+pointsIn ls (point p) = p ∷ []
+pointsIn ls (line l) = ends ls l
+pointsIn ls (value v) = []
+pointsIn ls (size v) = []
+pointsIn ls (axis a) = []
+pointsIn ls (side s) = []
+pointsIn ls (radius r) = onCircle r
+pointsIn ls (contact k) = []
+
+abbrev pub pointsAmong : List Line → List Field → List PointNo
+pointsAmong ls [] = []
+pointsAmong ls (f ∷ fs) = pointsIn ls f ++ pointsAmong ls fs
 
 abbrev pub involvedOf : List Line → Equation → List PointNo
-involvedOf ls (Equation.Coincident a b) = a ∷ b ∷ []
-involvedOf ls (Equation.Level a b axis) = a ∷ b ∷ []
-involvedOf ls (Equation.Parallel i j) = ends ls i ++ ends ls j
-involvedOf ls (Equation.Perpendicular i j) = ends ls i ++ ends ls j
-involvedOf ls (Equation.Collinear i j) = ends ls i ++ ends ls j
-involvedOf ls (Equation.Equal i j) = ends ls i ++ ends ls j
-involvedOf ls Equation.Held = []
-involvedOf ls (Equation.Distance a b value) = a ∷ b ∷ []
-involvedOf ls (Equation.AxisDistance a b axis value side) = a ∷ b ∷ []
-involvedOf ls (Equation.Length l value) = ends ls l
-involvedOf ls (Equation.PointLine p l value side) = p ∷ ends ls l
-involvedOf ls (Equation.ArcEnds c f t) = c ∷ f ∷ t ∷ []
-involvedOf ls (Equation.Radius c f value) = c ∷ f ∷ []
-involvedOf ls (Equation.LineCircle l c rad side) = ends ls l ++ centred c rad
-involvedOf ls (Equation.CircleCircle c₁ r₁ c₂ r₂ contact) = centred c₁ r₁ ++ centred c₂ r₂
-involvedOf ls (Equation.LineArcAt l c p) = ends ls l ++ c ∷ p ∷ []
-involvedOf ls (Equation.ArcArcAt c₁ c₂ p) = c₁ ∷ c₂ ∷ p ∷ []
-involvedOf ls (Equation.Midpoint p l) = p ∷ ends ls l
-involvedOf ls (Equation.ArcMidpoint p c f t) = p ∷ c ∷ f ∷ t ∷ []
-involvedOf ls (Equation.Symmetric p q l) = p ∷ q ∷ ends ls l
-involvedOf ls (Equation.EqualRadius c₁ f₁ c₂ f₂) = c₁ ∷ f₁ ∷ c₂ ∷ f₂ ∷ []
+involvedOf ls e = pointsAmong ls (equationFields e)
 
 -- such a list as the code hands it out: at most four points, and point 0 in the places past them
 abbrev pub touchedOf : List PointNo → Touched

@@ -1,4 +1,5 @@
 pub mod Parts
+pub mod Fields
 pub mod Numbers
 pub mod Indices
 pub mod Rows
@@ -6,4 +7,5 @@ pub mod Involved
 pub mod Check
 pub mod Blank
 pub mod Given
+pub mod Looked
 pub mod Cases

@@ -1,7 +1,7 @@
 // The points that an equation touches.
 ghost use mathlib.Core.Path.{_≡_};
 ghost use mathlib.Core.List.{_∷_, [], _++_};
-ghost use Rattle.sketch.specs.Involved.{involvedOf, touchedOf, lineAt, centred};
+ghost use Rattle.sketch.specs.Involved.{involvedOf, touchedOf, lineAt, onCircle};
 use crate::Equation;
 use crate::Line;
 use crate::LineNo;
@@ -90,7 +90,7 @@ fn line_ends(a: Line, b: Line) -> Touched
 }
 
 fn line_circle(l: Line, c: PointNo, rad: Rad) -> Touched
-    ensures { λ r. ⌜ r ≡ touchedOf (l .from ∷ l .to ∷ centred c rad) ⌝ }
+    ensures { λ r. ⌜ r ≡ touchedOf (l .from ∷ l .to ∷ c ∷ onCircle rad ++ []) ⌝ }
 {
     match rad {
         Rad::Point(p) => four(l.from, l.to, c, p),
@@ -99,7 +99,7 @@ fn line_circle(l: Line, c: PointNo, rad: Rad) -> Touched
 }
 
 fn circle_circle(c1: PointNo, r1: Rad, c2: PointNo, r2: Rad) -> Touched
-    ensures { λ r. ⌜ r ≡ touchedOf (centred c1 r1 ++ centred c2 r2) ⌝ }
+    ensures { λ r. ⌜ r ≡ touchedOf (c1 ∷ onCircle r1 ++ (c2 ∷ onCircle r2 ++ [])) ⌝ }
 {
     match r1 {
         Rad::Point(p1) => match r2 {

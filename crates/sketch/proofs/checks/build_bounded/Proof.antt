@@ -1,5 +1,6 @@
 -- Assumes nothing.
 use borrow.Author.Needs.{needs}
+use Rattle.sketch.proofs.Wholes.{bounded-whole}
 use Rattle.sketch.proofs.Within.{within}
 use Rattle.sketch.proofs.checks.build_bounded.Statement.{statement}
 use Rattle.sketch.proofs.checks.build_bounded.Tie as tie
@@ -28,6 +29,7 @@ returns c =
       c .before .before .before .is-sized .ensures,
       c .before .before .before .before .vec-bounded .ensures,
     )
+    (bounded-whole (c .before .before .before .before .before .before .before .before .before .args .b))
 
 pub build-bounded-spec : {M : Type 1} → statement M
 build-bounded-spec =

@@ -1,4 +1,5 @@
 -- Assumes nothing.
+use Rattle.sketch.proofs.Wholes.{found-whole}
 use Rattle.sketch.proofs.Within.{within}
 use Rattle.sketch.proofs.checks.build_found.Statement.{statement}
 use Rattle.sketch.proofs.checks.build_found.Tie as tie
@@ -13,7 +14,7 @@ measures-found-requires : tie.Need-measures-found-requires
 measures-found-requires c κs = let s = c .before .before .before .before .before in within (s .args .b) (s .pre) .3
 
 returns : tie.Need-returns
-returns c = rw (c .measures-found .ensures, c .before .equations-found .ensures, c .before .before .lines-found .ensures)
+returns c = rw (c .measures-found .ensures, c .before .equations-found .ensures, c .before .before .lines-found .ensures) (found-whole (c .before .before .before .before .before .before .args .b))
 
 pub build-found-spec : {M : Type 1} → statement M
 build-found-spec = tie.close (tie.spec lines-found-requires equations-found-requires measures-found-requires returns)
