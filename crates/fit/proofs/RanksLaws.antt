@@ -6,7 +6,6 @@ use mathlib.Core.Path.{_≡_, refl, sym, ap, _∙_}
 use native.Mathlib.Nat.{add-zero, le-refl, min-le-right, mul-le-mul-right}
 use native.Mathlib.Omega.{arith}
 use borrow.Author.Tests.{le-ltb, lt-ltb}
-use lib.Dec.{lit≤}
 use lib.Ieee.{Float}
 use lib.ListN.{length, getD, take, drop, replicate, length-take, length-append, length-drop}
 use lib.Seq.{getD-take, length-take-le, take-at, drop-at, drop-drop, drop-append-add}
@@ -171,30 +170,6 @@ module _ (b : Build) (f : Frame) (x p q r : List Float) where
         }
 
 -- ---- counting the rows
-
-pub two-at-most : (e : Equation) → rowsOf e ≤ 2
-unfolding rowsOf
-two-at-most (Equation.Coincident a b) = lit≤ tt
-two-at-most (Equation.Level a b axis) = lit≤ tt
-two-at-most (Equation.Parallel i j) = lit≤ tt
-two-at-most (Equation.Perpendicular i j) = lit≤ tt
-two-at-most (Equation.Collinear i j) = lit≤ tt
-two-at-most (Equation.Equal i j) = lit≤ tt
-two-at-most Equation.Held = lit≤ tt
-two-at-most (Equation.Distance a b value) = lit≤ tt
-two-at-most (Equation.AxisDistance a b axis value side) = lit≤ tt
-two-at-most (Equation.Length l value) = lit≤ tt
-two-at-most (Equation.PointLine p l value side) = lit≤ tt
-two-at-most (Equation.ArcEnds c f t) = lit≤ tt
-two-at-most (Equation.Radius c f value) = lit≤ tt
-two-at-most (Equation.LineCircle l c rad side) = lit≤ tt
-two-at-most (Equation.CircleCircle c₁ r₁ c₂ r₂ contact) = lit≤ tt
-two-at-most (Equation.LineArcAt l c p) = lit≤ tt
-two-at-most (Equation.ArcArcAt c₁ c₂ p) = lit≤ tt
-two-at-most (Equation.Midpoint p l) = lit≤ tt
-two-at-most (Equation.ArcMidpoint p c f t) = lit≤ tt
-two-at-most (Equation.Symmetric p q l) = lit≤ tt
-two-at-most (Equation.EqualRadius c₁ f₁ c₂ f₂) = lit≤ tt
 
 module _ (es : List Active) (items : List ℕ) (n i rows : ℕ) (room : n ≤ length items) (h : i < n) (R : ℕ) (t : fold (moreRows es) rows (drop i (take n items)) ≡ R) where
   pub more-rows : (r : ℕ) (q : Equation) → r ≡ rowsOf q → q ≡ equationAt es (getD items i 0) → fold (moreRows es) (rows + r) (drop (i + 1) (take n items)) ≡ R

@@ -6,3 +6,4 @@ pub mod Chained
 pub mod Wholes
 pub mod Looked
 pub mod Rebuilt
+pub mod AtMostTwo

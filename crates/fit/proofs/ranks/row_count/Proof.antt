@@ -8,8 +8,9 @@ use Rattle.loops.specs.Turns.{fold}
 use Rattle.rounds.specs.Problem.{moreRows}
 use Rattle.rows.proofs.Within.{any-default}
 use Rattle.rows.specs.Column.{heldActive}
+use Rattle.sketch.proofs.AtMostTwo.{two-at-most}
 use Rattle.sketch.specs.declared.Active.{Active}
-use Rattle.fit.proofs.RanksLaws.{two-at-most, more-rows, no-row, counted}
+use Rattle.fit.proofs.RanksLaws.{more-rows, no-row, counted}
 use Rattle.fit.proofs.ranks.row_count.Statement.{statement}
 use Rattle.fit.proofs.ranks.row_count.Tie as tie
 

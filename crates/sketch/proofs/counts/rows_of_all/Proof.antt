@@ -4,39 +4,15 @@ use mathlib.Core.List.{List}
 use mathlib.Core.Path.{_≡_, refl, ap}
 use native.Mathlib.Omega.{arith}
 use borrow.Author.Needs.{needs}
-use lib.Dec.{lit≤}
 use lib.ListN.{length, getD, take, drop}
 use lib.Seq.{length-take-le, getD-take}
 use Rattle.loops.specs.Turns.{fold, fold-next, fold-done}
 use Rattle.sketch.specs.Rows.{rowsOf, moreRows}
 use Rattle.sketch.specs.declared.Active.{Active}
 use Rattle.sketch.specs.declared.Equation.{Equation}
+use Rattle.sketch.proofs.AtMostTwo.{two-at-most}
 use Rattle.sketch.proofs.counts.rows_of_all.Statement.{statement}
 use Rattle.sketch.proofs.counts.rows_of_all.Tie as tie
-
-two-at-most : (e : Equation) → rowsOf e ≤ 2
-unfolding rowsOf
-two-at-most (Equation.Coincident a b) = lit≤ tt
-two-at-most (Equation.Level a b axis) = lit≤ tt
-two-at-most (Equation.Parallel i j) = lit≤ tt
-two-at-most (Equation.Perpendicular i j) = lit≤ tt
-two-at-most (Equation.Collinear i j) = lit≤ tt
-two-at-most (Equation.Equal i j) = lit≤ tt
-two-at-most Equation.Held = lit≤ tt
-two-at-most (Equation.Distance a b value) = lit≤ tt
-two-at-most (Equation.AxisDistance a b axis value side) = lit≤ tt
-two-at-most (Equation.Length l value) = lit≤ tt
-two-at-most (Equation.PointLine p l value side) = lit≤ tt
-two-at-most (Equation.ArcEnds c f t) = lit≤ tt
-two-at-most (Equation.Radius c f value) = lit≤ tt
-two-at-most (Equation.LineCircle l c rad side) = lit≤ tt
-two-at-most (Equation.CircleCircle c₁ r₁ c₂ r₂ contact) = lit≤ tt
-two-at-most (Equation.LineArcAt l c p) = lit≤ tt
-two-at-most (Equation.ArcArcAt c₁ c₂ p) = lit≤ tt
-two-at-most (Equation.Midpoint p l) = lit≤ tt
-two-at-most (Equation.ArcMidpoint p c f t) = lit≤ tt
-two-at-most (Equation.Symmetric p q l) = lit≤ tt
-two-at-most (Equation.EqualRadius c₁ f₁ c₂ f₂) = lit≤ tt
 
 small : (r : ℕ) (e : Equation) → r ≡ rowsOf e → r ≤ 2
 small r e h = omega (arith, two-at-most e)
