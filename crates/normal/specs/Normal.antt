@@ -1,10 +1,8 @@
 -- solver.rs, `solve`: what a round makes of the Jacobian. j is rows × nf, row after row; a is rows × rows.
 use Prim.Native.Nat.{ℕ, _+_, _*_}
-use mathlib.Core.Bool.{cond, _&&_}
-use mathlib.Core.List.{List, _++_}
+use mathlib.Core.List.{List}
 use lib.Ieee.{Float, nan}
-use lib.Dec.{leb}
-use lib.ListN.{length, getD, take, drop, set, replicate}
+use lib.ListN.{getD, set, replicate}
 use Rattle.floats.specs.Magnitude.{maxOf}
 use Rattle.floats.specs.Ops.{_⊕_, _⊖_, _⊗_, zero⁺, zero⁻, 1e-300}
 use Rattle.loops.specs.Turns.{upTo}
@@ -61,24 +59,3 @@ moveOne rows nf j y free c x = set x (getD free c 0) (getD x (getD free c 0) nan
 
 unfoldable pub movedOf : ℕ → ℕ → List Float → List Float → List ℕ → List Float → List Float
 movedOf rows nf j y free x = upTo nf 0 (moveOne rows nf j y free) x
-
--- ---- the calls, on lent slices: where one is shorter than its shape, nothing happens
-
--- the product goes to the head of a
-unfoldable pub productIn : ℕ → ℕ → List Float → List Float → List Float
-productIn rows nf j a =
-    cond (leb (rows * nf) (length j) && leb (rows * rows) (length a)) (productOf rows nf j ++ drop (rows * rows) a) a
-
--- the damped copy of what is at the head of a goes to the head of w
-unfoldable pub dampedIn : ℕ → Float → Float → List Float → List Float → List Float
-dampedIn rows mu m a w =
-    cond (leb (rows * rows) (length a) && leb (rows * rows) (length w))
-    (dampedOf rows mu m (take (rows * rows) a) ++ drop (rows * rows) w)
-    w
-
-unfoldable pub diagMaxIn : ℕ → List Float → Float
-diagMaxIn rows a = cond (leb (rows * rows) (length a)) (diagMaxOf rows a) nan
-
-unfoldable pub movedIn : ℕ → ℕ → List Float → List Float → List ℕ → List Float → List Float
-movedIn rows nf j y free x =
-    cond (leb (rows * nf) (length j) && leb rows (length y) && leb nf (length free)) (movedOf rows nf j y free x) x

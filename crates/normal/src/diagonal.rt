@@ -2,7 +2,10 @@
 ghost use mathlib.Core.Path.{_≡_};
 ghost use Prim.Native.Nat.{_*_, _≤_};
 ghost use lib.ListN.{length, take};
-ghost use Rattle.normal.specs.Normal.{largestOf, diagMaxIn, dampedOf, dampedIn};
+ghost use Rattle.normal.specs.Normal.{largestOf, dampedOf};
+ghost use Rattle.normal.specs.Promise.{Damps, Tops};
+use crate::Largest;
+use crate::Made;
 
 fn largest(a: &[f64], rows: usize) -> f64
     requires { ⌜ rows * rows ≤ length (now a) ⌝ }
@@ -16,14 +19,16 @@ fn largest(a: &[f64], rows: usize) -> f64
 }
 
 // The largest number on the diagonal, at least 1e-300.
-pub fn diag_max(a: &[f64], rows: usize) -> f64
-    ensures { λ r. ⌜ r ≡ diagMaxIn rows (now (a .entry)) ⌝ }
+pub fn diag_max(a: &[f64], rows: usize) -> Largest
+    ensures { λ r. ⌜ Tops rows (now (a .entry)) r ⌝ }
 {
-    if loops::holds(a.len(), rows, rows) {
-        floats::max(largest(a, rows), 1e-300)
-    } else {
-        0.0 / 0.0
+    if 80 < rows {
+        return Largest::TooMany;
     }
+    if loops::holds(a.len(), rows, rows) {
+        return Largest::Of(floats::max(largest(a, rows), 1e-300));
+    }
+    Largest::TooShort
 }
 
 fn add_on_diagonal(w: &mut [f64], rows: usize, mu: f64, m: f64)
@@ -45,11 +50,16 @@ fn whole_damped(a: &[f64], w: &mut [f64], rows: usize, mu: f64, m: f64)
 }
 
 // A copy of the product with mu * m added on its diagonal, at the head of w.
-pub fn damped(a: &[f64], w: &mut [f64], rows: usize, mu: f64, m: f64)
-    ensures { λ _. ⌜ now (w .exit) ≡ dampedIn rows mu m (now (a .entry)) (now (w .entry)) ⌝ }
+pub fn damped(a: &[f64], w: &mut [f64], rows: usize, mu: f64, m: f64) -> Made
+    ensures { λ r. ⌜ Damps rows mu m (now (a .entry)) (now (w .entry)) (now (w .exit)) r ⌝ }
 {
+    if 80 < rows {
+        return Made::TooMany;
+    }
     if loops::holds(a.len(), rows, rows) & loops::holds(w.len(), rows, rows) {
         let nn = rows * rows;
         whole_damped(a, &mut w[..nn], rows, mu, m);
+        return Made::Done;
     }
+    Made::TooShort
 }

@@ -3,7 +3,9 @@ ghost use mathlib.Core.Path.{_≡_};
 ghost use Prim.Native.Nat.{_*_, _≤_, _<_};
 ghost use lib.ListN.{length};
 ghost use Rattle.loops.specs.Turns.{upTo};
-ghost use Rattle.normal.specs.Normal.{rowsProduct, pairOf, pairsOf, productOf, productIn};
+ghost use Rattle.normal.specs.Normal.{rowsProduct, pairOf, pairsOf, productOf};
+ghost use Rattle.normal.specs.Promise.{Multiplies};
+use crate::Made;
 
 // The product of rows i and k of the Jacobian.
 fn rows_product(j: &[f64], rows: usize, nf: usize, i: usize, k: usize) -> f64
@@ -57,11 +59,16 @@ fn whole_product(j: &[f64], a: &mut [f64], rows: usize, nf: usize)
 }
 
 // A = J Jᵀ, at the head of a.
-pub fn product(j: &[f64], a: &mut [f64], rows: usize, nf: usize)
-    ensures { λ _. ⌜ now (a .exit) ≡ productIn rows nf (now (j .entry)) (now (a .entry)) ⌝ }
+pub fn product(j: &[f64], a: &mut [f64], rows: usize, nf: usize) -> Made
+    ensures { λ r. ⌜ Multiplies rows nf (now (j .entry)) (now (a .entry)) (now (a .exit)) r ⌝ }
 {
+    if (80 < rows) | (80 < nf) {
+        return Made::TooMany;
+    }
     if loops::holds(j.len(), rows, nf) & loops::holds(a.len(), rows, rows) {
         let nn = rows * rows;
         whole_product(j, &mut a[..nn], rows, nf);
+        return Made::Done;
     }
+    Made::TooShort
 }

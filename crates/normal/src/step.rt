@@ -2,7 +2,9 @@
 ghost use mathlib.Core.Path.{_≡_};
 ghost use Prim.Native.Nat.{_*_, _≤_, _<_};
 ghost use lib.ListN.{length};
-ghost use Rattle.normal.specs.Normal.{stepOf, moveOne, movedOf, movedIn};
+ghost use Rattle.normal.specs.Normal.{stepOf, moveOne, movedOf};
+ghost use Rattle.normal.specs.Promise.{Moves};
+use crate::Made;
 
 fn step_of(j: &[f64], y: &[f64], rows: usize, nf: usize, c: usize) -> f64
     requires { ⌜ (c < nf) × (rows * nf ≤ length (now j)) × (rows ≤ length (now y)) ⌝ }
@@ -37,10 +39,15 @@ fn move_all(j: &[f64], y: &[f64], free: &[usize], x: &mut [f64], rows: usize, nf
 }
 
 // Every free coordinate moved by its part of the step.
-pub fn moved(j: &[f64], y: &[f64], free: &[usize], x: &mut [f64], rows: usize, nf: usize)
-    ensures { λ _. ⌜ now (x .exit) ≡ movedIn rows nf (now (j .entry)) (now (y .entry)) (now (free .entry)) (now (x .entry)) ⌝ }
+pub fn moved(j: &[f64], y: &[f64], free: &[usize], x: &mut [f64], rows: usize, nf: usize) -> Made
+    ensures { λ r. ⌜ Moves rows nf (now (j .entry)) (now (y .entry)) (now (free .entry)) (now (x .entry)) (now (x .exit)) r ⌝ }
 {
+    if (80 < rows) | (80 < nf) {
+        return Made::TooMany;
+    }
     if loops::holds(j.len(), rows, nf) & (rows <= y.len()) & (nf <= free.len()) {
         move_all(j, y, free, x, rows, nf);
+        return Made::Done;
     }
+    Made::TooShort
 }
