@@ -1,4 +1,4 @@
-pub mod Rows
-pub mod Reflect
 pub mod Steps
+pub mod Layout
 pub mod Promise
+pub mod Examples

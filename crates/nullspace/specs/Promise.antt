@@ -1,48 +1,30 @@
 -- What a call of `null_space` answers and leaves in each lent place, for every input.
-use Prim.Native.Nat.{ℕ, _-_, _*_, _≤_, _<_, min}
-use mathlib.Core.Bool.{true, cond}
-use mathlib.Core.List.{List, _++_}
+use Prim.Native.Nat.{ℕ, _-_, _*_, _≤_, _<_}
+use mathlib.Core.Bool.{cond}
+use mathlib.Core.List.{List, _++_, flatten}
 use mathlib.Core.Path.{_≡_}
 use borrow.Author.Tests.{lt-ltb, le-ltb}
 use lib.Dec.{ltb}
-use lib.ListN.{length, take, drop, replicate}
+use lib.ListN.{length, drop, replicate}
 use lib.Ieee.{Float}
 use Rattle.floats.specs.Only.{only-answer}
 use Rattle.floats.specs.Ops.{zero⁺}
+use Rattle.loops.specs.Numbers.{Meaning, refused, values, tooMany, tooShort}
 use Rattle.loops.specs.Picks.{pick-yes, pick-no}
 use Rattle.nullspace.specs.declared.NullSpace.{NullSpace}
 use Rattle.nullspace.specs.declared.NullSpace.the-variants.{Rank, TooMany, TooShort}
-use Rattle.nullspace.specs.declared.qr.Step.{Step}
-use Rattle.nullspace.specs.declared.qr.Column.{Column}
-use Rattle.nullspace.specs.Rows.{unitRows}
-use Rattle.nullspace.specs.Steps.{Qr, normAt, turns-on, firstOf, turned, decomposed, rankOf, reflectorsOf, basisOf}
+use Rattle.nullspace.specs.Steps.{Qr, collect, rowAt, colsOf, decomposed, reflectorsOf, rankOf, basisOf}
 
--- a column with its remaining norm, one of m
-pub record Measured (n m k : ℕ) (t : List Float) (p : Column) : Type 0 where
-  pub within : p .row < m
-  pub norm : p .norm ≡ normAt n k t (p .row)
+-- what a call that is carried out finds: the rank, and the basis vectors
+pub record Found : Type 0 where
+  pub rank : ℕ
+  pub basis : List (List Float)
 
--- a turn over k on the list t, which leaves t′
-pub record Turned (n m k : ℕ) (first : Float) (t t′ : List Float) (r : Step) : Type 0 where
-  pub on : r .on ≡ turns-on n m k first t
-  pub next : r .first ≡ firstOf n m k first t
-  pub left : r .on ≡ true → t′ ≡ turned n m k t
-
--- the rank, of which no more than rows or columns come out, and the reflectors in the first rows of w′
-pub record Decomposes (rows n : ℕ) (w w′ : List Float) (r : ℕ) : Type 0 where
-  pub bounded : r ≤ min n rows
-  pub rank : r ≡ rankOf (decomposed rows n w)
-  pub reflectors : take (r * n) w′ ≡ reflectorsOf n (decomposed rows n w)
-
--- What an answer says in document 01's terms: its table's number for a refusal, or the rank.
-pub data Meaning : Type 0 where
-  refused : ℕ → Meaning
-  rank : ℕ → Meaning
-
-abbrev pub meaningOf : NullSpace → Meaning
-meaningOf (Rank r) = rank r
-meaningOf TooMany = refused 3
-meaningOf TooShort = refused 9
+-- what each case of the answer says in document 01's terms, with the output as it is afterwards
+abbrev pub meaningOf : ℕ → List Float → NullSpace → Meaning Found
+meaningOf n out′ (Rank r) = values (record { rank = r; basis = collect 0 (n - r) (λ i. rowAt n i out′) })
+meaningOf n out′ TooMany = refused tooMany
+meaningOf n out′ TooShort = refused tooShort
 
 -- document 01's table for a call on a bare matrix: 3, then 9, and otherwise the call is carried out
 module _ {A : Type 0} (rows n : ℕ) (m w out : List Float) where
@@ -79,13 +61,15 @@ module _ {A : Type 0} (rows n : ℕ) (m w out : List Float) where
         pub carried-out : rows * n ≤ length m → rows * n ≤ length w → n * n ≤ length out → v ≡ done → v ≡ checked three nine done
         carried-out a b h e = shaped (pick-no _ _ _ _ (le-ltb _ _ a) (pick-no _ _ _ _ (le-ltb _ _ b) (pick-no _ _ _ _ (le-ltb _ _ h) e)))
 
--- the matrix that the call is about, decomposed
+-- the matrix that the call is about, decomposed; `null_space`'s pair, and its vectors one after another
 abbrev pub decomposedOf : ℕ → ℕ → List Float → Qr
-decomposedOf rows n m = decomposed rows n (unitRows rows n m)
+decomposedOf rows n m = decomposed n (colsOf rows n m)
 
--- the basis vectors one after another
+abbrev pub foundIn : ℕ → ℕ → List Float → Found
+foundIn rows n m = let d = decomposedOf rows n m in record { rank = rankOf d; basis = basisOf n (reflectorsOf d) }
+
 abbrev pub vectorsOf : ℕ → ℕ → List Float → List Float
-vectorsOf rows n m = let d = decomposedOf rows n m in basisOf n (rankOf d) (reflectorsOf n d)
+vectorsOf rows n m = flatten (foundIn rows n m .basis)
 
 module _ (rows n : ℕ) (m w out : List Float) where
   abbrev pub answerOf : NullSpace
@@ -99,7 +83,7 @@ module _ (rows n : ℕ) (m w out : List Float) where
 
 pub record Spans (rows n : ℕ) (m w out w′ out′ : List Float) (r : NullSpace) : Type 0 where
   pub answer : r ≡ answerOf rows n m w out
-  pub meaning : meaningOf r ≡ checked rows n m w out (refused 3) (refused 9) (rank (rankOf (decomposedOf rows n m)))
+  pub meaning : meaningOf n out′ r ≡ checked rows n m w out (refused tooMany) (refused tooShort) (values (foundIn rows n m))
   pub work : w′ ≡ workAfter rows n m w out
   pub output : out′ ≡ outputAfter rows n m w out
 

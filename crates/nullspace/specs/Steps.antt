@@ -1,99 +1,125 @@
--- solver.rs, `null_space`: the turns over k and the basis. What the Rust keeps in `reflectors` and in `cols` from k on lies in one list, row
--- after row of n: a column before k is not read again, so the reflector that was made of it stands in its place. A turn is about t,
--- the list from row k on, which has m rows.
-use Prim.Native.Nat.{ℕ, _+_, _-_, _*_, min}
-use mathlib.Core.Bool.{Bool, cond, not, _&&_, _||_}
-use mathlib.Core.List.{List, [], _++_}
-use lib.Dec.{ltb, eqb}
-use lib.ListN.{take, drop, set, replicate}
-use lib.Ieee.{Float, neg, eq, le}
-use Rattle.floats.specs.Lists.{swapAt}
-use Rattle.floats.specs.Ops.{_⊖_, _⊗_, zero⁺, one, 1e-10}
+-- solver.rs, `null_space` and `reflect`, line by line, on a bare matrix whose rows of n numbers lie in a list one after another. `rel` is
+-- 1e-10; Jᵀ's columns are the matrix's rows, so `cols` and `reflectors` are lists of lists of n numbers.
+use Prim.Native.Nat.{ℕ, _+_, _*_, min}
+use mathlib.Core.Bool.{Bool, true, false, cond, _||_}
+use mathlib.Core.List.{List, [], _∷_, _++_, foldr, map, zipWith}
+use mathlib.Core.Option.{Option, none, some, Option·getD}
+use lib.Dec.{ltb}
+use lib.ListN.{length, getD, take, drop, set, replicate}
+use lib.Ieee.{Float, neg, eq, ne, lt, le}
 use Rattle.floats.specs.Magnitude.{magnitudeOf}
+use Rattle.floats.specs.Ops.{_⊕_, _⊖_, _⊗_, _⊘_, zero⁺, zero⁻, one, two, 1e-10}
+use Rattle.loops.specs.Turns.{Try, go, stop, upTo, whileTo, fold}
 use Rattle.root.specs.Root.{sqrtOf}
-use Rattle.loops.specs.Turns.{upTo, downTo, whileTo}
-use Rattle.solver.specs.Sums.{norm2Of}
 use Rattle.solver.specs.Steps.{at}
-use Rattle.nullspace.specs.Rows.{rowAt}
-use Rattle.nullspace.specs.Reflect.{reflectOf, reflectAt}
+use Rattle.solver.specs.Sums.{norm2Of}
+
+-- `(lo..hi).map(f).collect()`
+unfoldable pub push : (ℕ → List Float) → ℕ → List (List Float) → List (List Float)
+push f i l = l ++ f i ∷ []
+
+unfoldable pub collect : ℕ → ℕ → (ℕ → List Float) → List (List Float)
+collect lo hi f = upTo hi lo (push f) []
+
+-- `cols[i]`
+abbrev pub item : List (List Float) → ℕ → List Float
+item l i = getD l i []
+
+-- `jac[i * nf..(i + 1) * nf]`
+abbrev pub rowAt : ℕ → ℕ → List Float → List Float
+rowAt n i m = take n (drop (i * n) m)
+
+-- `if len > 0.0 { row.iter().map(|v| v / len).collect() } else { row }`
+unfoldable pub scaledBy : Float → List Float → List Float
+scaledBy len row = cond (lt zero⁺ len) (map (λ v. v ⊘ len) row) row
+
+unfoldable pub unitOf : List Float → List Float
+unitOf row = scaledBy (sqrtOf (norm2Of row)) row
+
+unfoldable pub unitAt : ℕ → List Float → ℕ → List Float
+unitAt n m i = unitOf (rowAt n i m)
+
+unfoldable pub colsOf : ℕ → ℕ → List Float → List (List Float)
+colsOf rows n m = collect 0 rows (unitAt n m)
+
+-- `reflect(v, vv, c)`, v and c of n numbers both: c less f times v, with f twice their product over vv; a `sum()` starts from −0.0
+unfoldable pub dotOf : List Float → List Float → Float
+dotOf v c = fold _⊕_ zero⁻ (zipWith _⊗_ v c)
+
+unfoldable pub lessAll : List Float → Float → List Float → List Float
+lessAll v f c = cond (ne f zero⁺) (zipWith (λ ci vi. ci ⊖ f ⊗ vi) c v) c
+
+unfoldable pub reflectOf : List Float → Float → List Float → List Float
+reflectOf v vv c = lessAll v (two ⊗ dotOf v c ⊘ vv) c
 
 -- `norm2(&cols[j][k..]).sqrt()`
-unfoldable pub normAt : ℕ → ℕ → List Float → ℕ → Float
-normAt n k t j = sqrtOf (norm2Of (take (n - k) (drop (j * n + k) t)))
+unfoldable pub normOf : ℕ → List (List Float) → ℕ → Float
+normOf k cols j = sqrtOf (norm2Of (drop k (item cols j)))
 
--- the column with the largest remaining norm, the lowest index on ties: a later one has to be larger
-unfoldable pub longerRow : ℕ → ℕ → List Float → ℕ → ℕ → ℕ
-longerRow n k t q p = cond (ltb (magnitudeOf (normAt n k t p)) (magnitudeOf (normAt n k t q))) q p
+-- the column from k on with the largest remaining norm, the lowest index on ties: a later one has to be larger
+unfoldable pub longer : ℕ → List (List Float) → ℕ → ℕ → ℕ
+longer k cols j best = cond (ltb (magnitudeOf (normOf k cols best)) (magnitudeOf (normOf k cols j))) j best
 
-unfoldable pub longestOf : ℕ → ℕ → ℕ → List Float → ℕ
-longestOf n m k t = upTo m 1 (longerRow n k t) 0
+unfoldable pub bestOf : ℕ → List (List Float) → ℕ
+bestOf k cols = upTo (length cols) (k + 1) (longer k cols) k
 
 -- `norm <= first.unwrap_or(0.0) * rel || norm == 0.0`
 unfoldable pub ended : Float → Float → Bool
 ended first norm = le norm (first ⊗ 1e-10) || eq norm zero⁺
 
--- `cols.swap(k, best)`
-unfoldable pub swapHead : ℕ → ℕ → ℕ → List Float → List Float
-swapHead n p c t = swapAt (p * n + c) c t
+-- `cols.swap(i, j)`
+unfoldable pub swapped : ℕ → ℕ → List (List Float) → List (List Float)
+swapped i j cols = set (set cols i (item cols j)) j (item cols i)
 
--- `v`, at the head of t: zeros before k, the column from k on, and at k the norm away from zero
-unfoldable pub awayAt : ℕ → Float → List Float → List Float
-awayAt k norm t = set t k (at t k ⊖ cond (le zero⁺ (at t k)) (neg norm) norm)
+-- `v`: zeros before k, then the column's rest; and `v[k] -= if v[k] >= 0.0 { -norm } else { norm }`
+unfoldable pub away : ℕ → Float → List Float → List Float
+away k norm v = set v k (at v k ⊖ cond (le zero⁺ (at v k)) (neg norm) norm)
 
-unfoldable pub reflectorOf : ℕ → ℕ → ℕ → Float → List Float → List Float
-reflectorOf n k best norm t = awayAt k norm (replicate k zero⁺ ++ drop k (upTo n 0 (swapHead n best) t))
+unfoldable pub reflectorOf : ℕ → Float → List Float → List Float
+reflectorOf k norm c = away k norm (replicate k zero⁺ ++ drop k c)
 
--- each later column reflected
-unfoldable pub reflectedBy : ℕ → ℕ → Float → List Float → List Float
-reflectedBy n m vv t = upTo m 1 (reflectAt n vv) t
+-- `for c in cols.iter_mut().skip(k) { reflect(&v, vv, c) }`
+unfoldable pub reflectFrom : ℕ → List Float → Float → List (List Float) → List (List Float)
+reflectFrom k v vv cols = take k cols ++ map (reflectOf v vv) (drop k cols)
 
--- The turn of k: the longest column's norm; the list with the reflector at its head; whether it goes on, by the norm and by `vv`;
--- what `first` is then; and what it leaves.
-unfoldable pub largestNorm : ℕ → ℕ → ℕ → List Float → Float
-largestNorm n m k t = normAt n k t (longestOf n m k t)
-
-unfoldable pub begun : ℕ → ℕ → ℕ → List Float → List Float
-begun n m k t = reflectorOf n k (longestOf n m k t) (largestNorm n m k t) t
-
-unfoldable pub turns-on : ℕ → ℕ → ℕ → Float → List Float → Bool
-turns-on n m k first t = not (ended first (largestNorm n m k t)) && not (eq (norm2Of (take n (begun n m k t))) zero⁺)
-
-unfoldable pub firstOf : ℕ → ℕ → ℕ → Float → List Float → Float
-firstOf n m k first t = cond (eqb k 0) (largestNorm n m k t) first
-
-unfoldable pub turned : ℕ → ℕ → ℕ → List Float → List Float
-turned n m k t = reflectedBy n m (norm2Of (take n (begun n m k t))) (begun n m k t)
-
--- between two turns: the reflectors so far, `first`, and the list
+-- `reflectors`, `first` and `cols`, and the turn of k: it breaks, or goes on with these
 pub data Qr : Type 0 where
-  qr : ℕ → Float → List Float → Qr
+  qr : List (List Float) → Option Float → List (List Float) → Qr
 
-unfoldable pub goesOn : ℕ → ℕ → ℕ → Qr → Bool
-goesOn rows n k (qr rank first w) = turns-on n (rows - k) k first (drop (k * n) w)
+unfoldable pub turnOf : ℕ → Qr → Try Qr
+turnOf k (qr reflectors first cols) =
+    let best = bestOf k cols in
+    let norm = normOf k cols best in
+    let swap = swapped k best cols in
+    let v = reflectorOf k norm (item swap k) in
+    let vv = norm2Of v in
+    cond (ended (Option·getD first zero⁺) norm) stop
+    (cond (eq vv zero⁺) stop (go (qr (reflectors ++ v ∷ []) (some (Option·getD first norm)) (reflectFrom k v vv swap))))
 
-unfoldable pub turnOf : ℕ → ℕ → ℕ → Qr → Qr
-turnOf rows n k (qr rank first w) =
-    qr (k + 1) (firstOf n (rows - k) k first (drop (k * n) w)) (take (k * n) w ++ turned n (rows - k) k (drop (k * n) w))
+-- a turn that breaks leaves all as it is
+abbrev pub goes : Try Qr → Bool
+goes (go s) = true
+goes stop = false
 
-unfoldable pub decomposed : ℕ → ℕ → List Float → Qr
-decomposed rows n w = whileTo (min n rows) 0 (goesOn rows n) (turnOf rows n) (qr 0 zero⁺ w)
+abbrev pub orAsItIs : Qr → Try Qr → Qr
+orAsItIs s (go s′) = s′
+orAsItIs s stop = s
 
--- the basis vector of j: the unit vector, reflected by every reflector from the last to the first
-unfoldable pub reflectBy : ℕ → List Float → ℕ → List Float → List Float
-reflectBy n w r e = reflectOf n (rowAt n r w) (norm2Of (rowAt n r w)) e
+unfoldable pub decomposed : ℕ → List (List Float) → Qr
+decomposed n cols = whileTo (min n (length cols)) 0 (λ k s. goes (turnOf k s)) (λ k s. orAsItIs s (turnOf k s)) (qr [] none cols)
 
-unfoldable pub basisVector : ℕ → ℕ → List Float → ℕ → List Float
-basisVector n rank w j = downTo rank (reflectBy n w) (set (replicate n zero⁺) j one)
+abbrev pub reflectorsOf : Qr → List (List Float)
+reflectorsOf (qr reflectors first cols) = reflectors
 
-unfoldable pub addVector : ℕ → ℕ → List Float → ℕ → List Float → List Float
-addVector n rank w j l = l ++ basisVector n rank w j
-
--- the first rank rows are the reflectors
 abbrev pub rankOf : Qr → ℕ
-rankOf (qr rank first w) = rank
+rankOf d = length (reflectorsOf d)
 
-abbrev pub reflectorsOf : ℕ → Qr → List Float
-reflectorsOf n (qr rank first w) = take (rank * n) w
+-- `e`, a unit vector, and `for v in reflectors.iter().rev() { reflect(v, norm2(v), &mut e) }`: the last one first
+unfoldable pub reflectBy : List Float → List Float → List Float
+reflectBy v e = reflectOf v (norm2Of v) e
 
-unfoldable pub basisOf : ℕ → ℕ → List Float → List Float
-basisOf n rank v = upTo n rank (addVector n rank v) []
+unfoldable pub basisVector : ℕ → List (List Float) → ℕ → List Float
+basisVector n reflectors j = foldr reflectBy (set (replicate n zero⁺) j one) reflectors
+
+unfoldable pub basisOf : ℕ → List (List Float) → List (List Float)
+basisOf n reflectors = collect (length reflectors) n (basisVector n reflectors)

@@ -4,7 +4,7 @@ ghost use mathlib.Core.Path.{_≡_};
 ghost use Prim.Native.Nat.{_+_, _-_, _*_, _≤_, _<_};
 ghost use lib.ListN.{length, drop, set, replicate};
 ghost use Rattle.floats.specs.Ops.{zero⁺, one};
-ghost use Rattle.nullspace.specs.Steps.{basisVector, basisOf};
+ghost use Rattle.nullspace.specs.Layout.{laidBasis, laidVector};
 use crate::reflect;
 
 fn unit(e: &mut [f64], j: usize)
@@ -27,7 +27,7 @@ fn row_start(r: usize, n: usize, len: usize) -> usize
 
 fn reflected(e: &mut [f64], n: usize, v: &[f64], rank: usize, j: usize)
     requires { ⌜ ((length (now e) ≡ n) × (j < n)) × (rank * n ≤ length (now v)) ⌝ }
-    ensures { λ _. ⌜ now (e .exit) ≡ basisVector n rank (now (v .entry)) j ⌝ }
+    ensures { λ _. ⌜ now (e .exit) ≡ laidVector n rank (now (v .entry)) j ⌝ }
 {
     unit(e, j);
     let mut r = rank;
@@ -42,7 +42,7 @@ fn reflected(e: &mut [f64], n: usize, v: &[f64], rank: usize, j: usize)
 // A vector of the basis, as it is handed out.
 fn vector(e: &mut [f64], n: usize, v: &[f64], rank: usize, j: usize)
     requires { ⌜ ((length (now e) ≡ n) × (j < n)) × (rank * n ≤ length (now v)) ⌝ }
-    ensures { λ _. ⌜ now (e .exit) ≡ basisVector n rank (now (v .entry)) j ⌝ }
+    ensures { λ _. ⌜ now (e .exit) ≡ laidVector n rank (now (v .entry)) j ⌝ }
 {
     reflected(e, n, v, rank, j);
     floats::hand_out(e);
@@ -51,7 +51,7 @@ fn vector(e: &mut [f64], n: usize, v: &[f64], rank: usize, j: usize)
 // The vectors one after another at the head of `out`.
 pub(crate) fn vectors(out: &mut [f64], v: &[f64], n: usize, rank: usize)
     requires { ⌜ ((rank ≤ n) × (n * n ≤ length (now out))) × (rank * n ≤ length (now v)) ⌝ }
-    ensures { λ _. ⌜ now (out .exit) ≡ basisOf n rank (now (v .entry)) ++ drop ((n - rank) * n) (now (out .entry)) ⌝ }
+    ensures { λ _. ⌜ now (out .exit) ≡ laidBasis n rank (now (v .entry)) ++ drop ((n - rank) * n) (now (out .entry)) ⌝ }
 {
     for j in rank..n {
         let start = (j - rank) * n;

@@ -7,8 +7,8 @@ ghost use lib.Ieee.{neg, le};
 ghost use lib.ListN.{length};
 ghost use Rattle.floats.specs.Ops.{zero⁺};
 ghost use Rattle.loops.specs.Turns.{upTo};
-ghost use Rattle.nullspace.specs.Promise.{Measured, Turned, Decomposes};
-ghost use Rattle.nullspace.specs.Steps.{normAt, longerRow, longestOf, ended, swapHead, awayAt, reflectorOf};
+ghost use Rattle.nullspace.specs.Steps.{away, ended};
+ghost use Rattle.nullspace.specs.Layout.{Decomposes, Measured, Turned, longerRow, longestOf, normAt, reflectorAt, swapHead};
 use crate::reflect;
 use loops::smaller;
 
@@ -76,7 +76,7 @@ fn swap_head(t: &mut [f64], n: usize, p: usize)
 
 fn push_away(t: &mut [f64], k: usize, norm: f64)
     requires { ⌜ k < length (now t) ⌝ }
-    ensures { λ _. ⌜ now (t .exit) ≡ awayAt k norm (now (t .entry)) ⌝ }
+    ensures { λ _. ⌜ now (t .exit) ≡ away k norm (now (t .entry)) ⌝ }
 {
     let x = t[k];
     t[k] = x - signed(x, norm);
@@ -91,7 +91,7 @@ fn signed(x: f64, norm: f64) -> f64
 // Makes a reflector of the column `row`, and puts it first.
 fn make_reflector(t: &mut [f64], n: usize, k: usize, row: usize, norm: f64)
     requires { ⌜ (k < n) × (row * n + n ≤ length (now t)) ⌝ }
-    ensures { λ _. ⌜ now (t .exit) ≡ reflectorOf n k row norm (now (t .entry)) ⌝ }
+    ensures { λ _. ⌜ now (t .exit) ≡ reflectorAt n k row norm (now (t .entry)) ⌝ }
 {
     swap_head(t, n, row);
     floats::clear(&mut t[..k]);

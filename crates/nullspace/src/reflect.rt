@@ -5,8 +5,8 @@ ghost use lib.ListN.{length};
 ghost use Rattle.loops.specs.Turns.{upTo};
 ghost use Rattle.solver.specs.Steps.{lessPast};
 ghost use Rattle.solver.specs.Sums.{norm2Of};
-ghost use Rattle.nullspace.specs.Reflect.{dotOf, dotAt, lessBy, lessAll, lessRowAt, reflectOf, reflectAt};
-ghost use Rattle.nullspace.specs.Steps.{reflectedBy};
+ghost use Rattle.nullspace.specs.Steps.{dotOf, lessAll, reflectOf};
+ghost use Rattle.nullspace.specs.Layout.{lessBy, dotAt, lessRowAt, reflectAt, reflectedBy};
 
 fn dot_row(t: &[f64], n: usize, j: usize) -> f64
     requires { ⌜ j * n + n ≤ length (now t) ⌝ }
@@ -63,7 +63,7 @@ struct Sums {
 
 fn products(v: &[f64], n: usize, c: &[f64]) -> Sums
     requires { ⌜ (length (now v) ≡ n) × (length (now c) ≡ n) ⌝ }
-    ensures { λ r. ⌜ (r .dot ≡ dotOf n (now (v .entry)) (now (c .entry))) × (r .norm ≡ norm2Of (now (v .entry))) ⌝ }
+    ensures { λ r. ⌜ (r .dot ≡ dotOf (now (v .entry)) (now (c .entry))) × (r .norm ≡ norm2Of (now (v .entry))) ⌝ }
 {
     let mut dot = -0.0;
     let mut norm = -0.0;
@@ -85,7 +85,7 @@ fn less_by(v: &[f64], n: usize, f: f64, c: &mut [f64])
 
 fn less_all(v: &[f64], n: usize, f: f64, c: &mut [f64])
     requires { ⌜ (length (now v) ≡ n) × (length (now c) ≡ n) ⌝ }
-    ensures { λ _. ⌜ now (c .exit) ≡ lessAll n (now (v .entry)) f (now (c .entry)) ⌝ }
+    ensures { λ _. ⌜ now (c .exit) ≡ lessAll (now (v .entry)) f (now (c .entry)) ⌝ }
 {
     if f != 0.0 {
         less_by(v, n, f, c);
@@ -94,7 +94,7 @@ fn less_all(v: &[f64], n: usize, f: f64, c: &mut [f64])
 
 pub(crate) fn reflect(v: &[f64], n: usize, c: &mut [f64])
     requires { ⌜ (length (now v) ≡ n) × (length (now c) ≡ n) ⌝ }
-    ensures { λ _. ⌜ now (c .exit) ≡ reflectOf n (now (v .entry)) (norm2Of (now (v .entry))) (now (c .entry)) ⌝ }
+    ensures { λ _. ⌜ now (c .exit) ≡ reflectOf (now (v .entry)) (norm2Of (now (v .entry))) (now (c .entry)) ⌝ }
 {
     let p = products(v, n, c);
     less_all(v, n, 2.0 * p.dot / p.norm, c);

@@ -4,7 +4,8 @@ ghost use mathlib.Core.Path.{_≡_};
 ghost use Prim.Native.Nat.{_*_, _≤_};
 ghost use lib.ListN.{length};
 ghost use Rattle.floats.specs.Ops.{_⊘_};
-ghost use Rattle.nullspace.specs.Rows.{scaledBy, unitOf, unitRows};
+ghost use Rattle.nullspace.specs.Steps.{scaledBy, unitOf};
+ghost use Rattle.nullspace.specs.Layout.{unitRows};
 
 fn divide(row: &[f64], len: f64, to: &mut [f64])
     requires { ⌜ length (now to) ≡ length (now row) ⌝ }

@@ -9,10 +9,12 @@ use lib.Ieee.{Float}
 use mir.Syntax.{w64}
 use mir.Val.{Fits}
 use Rattle.floats.specs.Ops.{zero⁺}
+use Rattle.loops.specs.Numbers.{values}
 use Rattle.loops.specs.Parts.{front, still-fits, refilled}
 use Rattle.nullspace.specs.declared.NullSpace.the-variants.{Rank}
-use Rattle.nullspace.specs.Steps.{rankOf}
-use Rattle.nullspace.specs.Promise.{Spans, rank, too-many-rows, too-many-columns, short-matrix, short-work, short-output, carried-out, decomposedOf, vectorsOf}
+use Rattle.nullspace.specs.Steps.{Qr, reflectorsOf, rankOf}
+use Rattle.nullspace.specs.Promise.{Spans, too-many-rows, too-many-columns, short-matrix, short-work, short-output, carried-out, meaningOf, decomposedOf, foundIn, vectorsOf}
+use Rattle.nullspace.proofs.Laid.{found, basis-read}
 use borrow.Author.Needs.{needs}
 use Rattle.nullspace.proofs.null_space.Statement.{statement}
 use Rattle.nullspace.proofs.null_space.Tie as tie
@@ -20,15 +22,23 @@ use Rattle.nullspace.proofs.null_space.Tie as tie
 product-fits : (r n b : ℕ) → r ≤ b → b ≤ 80 → n ≤ 80 → Fits w64 (r * n)
 product-fits r n b h k c = record { fits = omega (arith, mul-le-mul-right n h, mul-le-mul-right n k) }
 
+-- what is handed out, read back
+meant : (rows n : ℕ) (m y b : List Float) (r : ℕ) → rows * n ≤ length m → r ≡ rankOf (decomposedOf rows n m) → y ≡ vectorsOf rows n m ++ b
+    → meaningOf n y (Rank r) ≡ values (foundIn rows n m)
+meant rows n m y b r fit e q =
+    let d : Qr = decomposedOf rows n m in
+    let f = found rows n m fit in
+    rw (e, q) (ap (λ l. values (record { rank = rankOf d; basis = l })) (basis-read n (reflectorsOf d) (f .wide) (f .few) b))
+
 spans : (rows n : ℕ) (m w out w₁ z y : List Float) (r : ℕ) → rows ≤ 64 → n ≤ 80 → rows * n ≤ length m → rows * n ≤ length w → n * n ≤ length out
     → length w₁ ≡ length (take (rows * n) w) → z ≡ replicate (length (take (rows * n) (w₁ ++ drop (rows * n) w))) zero⁺
     → (r ≡ rankOf (decomposedOf rows n m)) × (y ≡ vectorsOf rows n m ++ drop ((n - r) * n) out)
     → Spans rows n m w out (z ++ drop (rows * n) (w₁ ++ drop (rows * n) w)) y (Rank r)
-spans rows n m w out w₁ z y r h c a b o same zeros found = record {
-  answer = carried-out rows n m w out _ _ _ _ h c a b o (ap Rank (found .0));
-  meaning = carried-out rows n m w out _ _ _ _ h c a b o (ap rank (found .0));
+spans rows n m w out w₁ z y r h c a b o same zeros got = record {
+  answer = carried-out rows n m w out _ _ _ _ h c a b o (ap Rank (got .0));
+  meaning = carried-out rows n m w out _ _ _ _ h c a b o (meant rows n m y _ r a (got .0) (got .1));
   work = carried-out rows n m w out _ _ _ _ h c a b o (refilled zero⁺ (rows * n) w w₁ z b same zeros);
-  output = carried-out rows n m w out _ _ _ _ h c a b o (found .1 ∙ ap (λ x. vectorsOf rows n m ++ drop ((n - x) * n) out) (found .0));
+  output = carried-out rows n m w out _ _ _ _ h c a b o (got .1 ∙ ap (λ x. vectorsOf rows n m ++ drop ((n - x) * n) out) (got .0));
 }
 
 returns : tie.Need-returns

@@ -7,9 +7,10 @@ use native.Mathlib.Omega.{arith}
 use lib.ListN.{length, take, drop}
 use lib.Ieee.{Float}
 use Rattle.loops.specs.Parts.{front}
-use Rattle.nullspace.specs.Rows.{unitRows}
-use Rattle.nullspace.specs.Steps.{basisOf}
-use Rattle.nullspace.specs.Promise.{Decomposes, vectorsOf}
+use Rattle.nullspace.specs.Steps.{reflectorsOf, rankOf}
+use Rattle.nullspace.specs.Layout.{Decomposes, laidOut, laidBasis, unitRows}
+use Rattle.nullspace.specs.Promise.{decomposedOf, vectorsOf}
+use Rattle.nullspace.proofs.Laid.{Found, found, basis-laid}
 use borrow.Author.Needs.{needs}
 use Rattle.nullspace.proofs.span.Statement.{statement}
 use Rattle.nullspace.proofs.span.Tie as tie
@@ -17,12 +18,21 @@ use Rattle.nullspace.proofs.span.Tie as tie
 kept-in : (r rows n l : ℕ) → r ≤ min n rows → l ≡ rows * n → r * n ≤ l
 kept-in r rows n l h e = let k : r ≤ rows = omega arith in omega (arith, mul-le-mul-right n k)
 
-module _ (rows n r : ℕ) (m w₁ w₂ : List Float) (units : w₁ ≡ unitRows rows n m) (d : Decomposes rows n w₁ w₂ r) where
+module _ (rows n r : ℕ) (m w₁ w₂ : List Float) (fit : rows * n ≤ length m) (units : w₁ ≡ unitRows rows n m) (d : Decomposes rows n w₁ w₂ r) where
   told : Decomposes rows n (unitRows rows n m) w₂ r
   told = rw units at d
 
-  spans : (out y : List Float) → y ≡ basisOf n r (take (r * n) w₂) ++ drop ((n - r) * n) out → y ≡ vectorsOf rows n m ++ drop ((n - r) * n) out
-  spans out y e = e ∙ ap (λ l. l ++ drop ((n - r) * n) out) (ap₂ (basisOf n) (told .rank) (told .reflectors))
+  abbrev here : Found n (laidOut rows n (unitRows rows n m)) (decomposedOf rows n m)
+  here = found rows n m fit
+
+  rank-is : r ≡ rankOf (decomposedOf rows n m)
+  rank-is = told .rank ∙ here .rank
+
+  basis-is : laidBasis n r (take (r * n) w₂) ≡ vectorsOf rows n m
+  basis-is = ap₂ (laidBasis n) rank-is (told .reflectors ∙ here .reflectors) ∙ basis-laid n (reflectorsOf (decomposedOf rows n m)) (here .wide) (here .few)
+
+  spans : (out y : List Float) → y ≡ laidBasis n r (take (r * n) w₂) ++ drop ((n - r) * n) out → y ≡ vectorsOf rows n m ++ drop ((n - r) * n) out
+  spans out y e = e ∙ ap (λ l. l ++ drop ((n - r) * n) out) basis-is
 
 mul-kept : tie.Need-mul-kept
 mul-kept c = omega (arith, kept-in _ _ _ (length (c .before .before .before .before .before .before .before .before .before .before .before .args .work .now)) (c .before .before .decompose .ensures .bounded) (c .before .before .before .before .before .before .before .before .before .before .before .pre .1 .0))
@@ -38,7 +48,7 @@ vectors-requires c κs = let k = kept-in _ _ _ (length (c .before .before .befor
     ((omega (arith, c .before .before .before .before .decompose .ensures .bounded), search needs), rw (← front _ _ k) (le-refl _))
 
 returns : tie.Need-returns
-returns c = (told _ _ _ _ _ _ (c .before .before .before .before .before .before .before .before .before .before .before .unit-rows .ensures) (c .before .before .before .before .before .before .before .decompose .ensures) .rank, spans _ _ _ _ _ _ (c .before .before .before .before .before .before .before .before .before .before .before .unit-rows .ensures) (c .before .before .before .before .before .before .before .decompose .ensures) _ _ (c .before .before .vectors .ensures))
+returns c = (rank-is _ _ _ _ _ _ (c .before .before .before .before .before .before .before .before .before .before .before .before .before .before .before .before .pre .0) (c .before .before .before .before .before .before .before .before .before .before .before .unit-rows .ensures) (c .before .before .before .before .before .before .before .decompose .ensures), spans _ _ _ _ _ _ (c .before .before .before .before .before .before .before .before .before .before .before .before .before .before .before .before .pre .0) (c .before .before .before .before .before .before .before .before .before .before .before .unit-rows .ensures) (c .before .before .before .before .before .before .before .decompose .ensures) _ _ (c .before .before .vectors .ensures))
 
 pub span-spec : {M : Type 1} → statement M
 span-spec =

@@ -10,22 +10,22 @@ use Rattle.floats.specs.Ops.{zero⁺, one}
 use Rattle.solver.specs.Sums.{norm2Of}
 use Rattle.loops.specs.Turns.{downTo, downTo-next, downTo-done}
 use Rattle.loops.specs.Cells.{cell-row}
-use Rattle.nullspace.specs.Reflect.{reflectOf}
-use Rattle.nullspace.specs.Steps.{reflectBy, basisVector}
+use Rattle.nullspace.specs.Steps.{reflectOf}
+use Rattle.nullspace.specs.Layout.{laidVector, reflectByRow}
 use Rattle.nullspace.proofs.Built.{one-row, part-length}
 use Rattle.nullspace.proofs.basis.reflected.Statement.{statement}
 use Rattle.nullspace.proofs.basis.reflected.Tie as tie
 
-by-row : (n k s : ℕ) (v e y : List Float) → s ≡ k * n → y ≡ reflectOf n (take (s + n - s) (drop s v)) (norm2Of (take (s + n - s) (drop s v))) e → y ≡ reflectBy n v k e
-unfolding reflectBy
+by-row : (n k s : ℕ) (v e y : List Float) → s ≡ k * n → y ≡ reflectOf (take (s + n - s) (drop s v)) (norm2Of (take (s + n - s) (drop s v))) e → y ≡ reflectByRow n v k e
+unfolding reflectByRow
 by-row n k s v e y h q = q ∙ rw (one-row s n v, h)
 
-from-unit : (n rank j : ℕ) (v e y : List Float) → length e ≡ n → y ≡ set (replicate (length e) zero⁺) j one → downTo rank (reflectBy n v) y ≡ basisVector n rank v j
-unfolding basisVector
+from-unit : (n rank j : ℕ) (v e y : List Float) → length e ≡ n → y ≡ set (replicate (length e) zero⁺) j one → downTo rank (reflectByRow n v) y ≡ laidVector n rank v j
+unfolding laidVector
 from-unit n rank j v e y h q = rw (q, h)
 
 abbrev Inv-loop : tie.InvT-loop
-Inv-loop e₀ n v rank j r₀ e r = (r ≤ rank) × (length e ≡ n) × (downTo r (reflectBy n v) e ≡ basisVector n rank v j)
+Inv-loop e₀ n v rank j r₀ e r = (r ≤ rank) × (length e ≡ n) × (downTo r (reflectByRow n v) e ≡ laidVector n rank v j)
 
 abbrev μ-loop : tie.MeasureT-loop
 μ-loop e₀ n v rank j r₀ e r = r

@@ -10,7 +10,7 @@ use lib.Ieee.{Float}
 use borrow.Author.Needs.{needs}
 use Rattle.loops.specs.Turns.{upTo, upTo-next, upTo-done}
 use Rattle.loops.specs.Cells.{cell-row}
-use Rattle.nullspace.specs.Steps.{basisVector, addVector, basisOf}
+use Rattle.nullspace.specs.Layout.{addVector, laidBasis, laidVector}
 use Rattle.nullspace.proofs.Built.{part-length, take-built, drop-built}
 use Rattle.nullspace.proofs.basis.vectors.Statement.{statement}
 use Rattle.nullspace.proofs.basis.vectors.Tie as tie
@@ -28,7 +28,7 @@ module _ (n rank j : ℕ) (v out₀ out y : List Float) (h : rank ≤ j) (fit : 
   abbrev built : List Float
   built = take ((j - rank) * n) out ++ (y ++ drop ((j - rank) * n + n - (j - rank) * n) (drop ((j - rank) * n) out))
 
-  taken : y ≡ basisVector n rank v j → take ((j + 1 - rank) * n) built ≡ addVector n rank v j (take ((j - rank) * n) out)
+  taken : y ≡ laidVector n rank v j → take ((j + 1 - rank) * n) built ≡ addVector n rank v j (take ((j - rank) * n) out)
   unfolding addVector
   taken e = rw (one-more j rank n h) (take-built ((j - rank) * n) n out y fit size ∙ ap (λ y. take ((j - rank) * n) out ++ y) e)
 
@@ -49,13 +49,13 @@ at-end f n rank j out out₀ l h k q d =
     whole ((j - rank) * n) out out₀ l (upTo-done f n j (take ((j - rank) * n) out) l h q) d ∙ ap (λ x. l ++ drop ((x - rank) * n) out₀) (le-antisymm k h)
 
 abbrev Inv-loop : tie.InvT-loop
-Inv-loop out₀ v n rank j₀ out j = ((rank ≤ j) × (j ≤ n)) × (length out ≡ length out₀) × (upTo n j (addVector n rank v) (take ((j - rank) * n) out) ≡ basisOf n rank v) × (drop ((j - rank) * n) out ≡ drop ((j - rank) * n) out₀)
+Inv-loop out₀ v n rank j₀ out j = ((rank ≤ j) × (j ≤ n)) × (length out ≡ length out₀) × (upTo n j (addVector n rank v) (take ((j - rank) * n) out) ≡ laidBasis n rank v) × (drop ((j - rank) * n) out ≡ drop ((j - rank) * n) out₀)
 
 abbrev μ-loop : tie.MeasureT-loop
 μ-loop out₀ v n rank j₀ out j = n - j
 
 loop-holds : tie.Need-loop-holds Inv-loop μ-loop
-unfolding basisOf
+unfolding laidBasis
 loop-holds c = ((search needs, search needs), refl, rw none, refl)
 
 mul-start : tie.Need-mul-start Inv-loop μ-loop

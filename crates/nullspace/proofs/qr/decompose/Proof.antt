@@ -14,8 +14,7 @@ use Rattle.loops.specs.Turns.{whileTo, whileTo-next, whileTo-stop, whileTo-done
 use Rattle.loops.specs.Cells.{cell-row}
 use Rattle.loops.specs.Parts.{tail-part, past-tail}
 use Rattle.nullspace.specs.declared.qr.Step.{Step}
-use Rattle.nullspace.specs.Promise.{Turned}
-use Rattle.nullspace.specs.Steps.{qr, goesOn, turnOf, decomposed, rankOf, reflectorsOf}
+use Rattle.nullspace.specs.Layout.{Turned, laidOut, laidOn, laid, laidRank, laidReflectors, laidTurn}
 use Rattle.nullspace.proofs.qr.decompose.Statement.{statement}
 use Rattle.nullspace.proofs.qr.decompose.Tie as tie
 
@@ -28,29 +27,29 @@ module _ (rows n k : ℕ) (first : Float) (w t : List Float) (r : Step) (e : Tur
   told : Turned n (rows - k) k first (drop (k * n) w) t r
   told = rw tail-part at e
 
-  goes : r .on ≡ true → goesOn rows n k (qr k first w) ≡ true
-  unfolding goesOn
+  goes : r .on ≡ true → laidOn rows n k (laid k first w) ≡ true
+  unfolding laidOn
   goes o = sym (told .on) ∙ o
 
-  stops : r .on ≡ false → goesOn rows n k (qr k first w) ≡ false
-  unfolding goesOn
+  stops : r .on ≡ false → laidOn rows n k (laid k first w) ≡ false
+  unfolding laidOn
   stops o = sym (told .on) ∙ o
 
-  next : r .on ≡ true → qr (k + 1) (r .first) (take (k * n) w ++ (t ++ drop (length w - k * n) (drop (k * n) w))) ≡ turnOf rows n k (qr k first w)
-  unfolding turnOf
+  next : r .on ≡ true → laid (k + 1) (r .first) (take (k * n) w ++ (t ++ drop (length w - k * n) (drop (k * n) w))) ≡ laidTurn rows n k (laid k first w)
+  unfolding laidTurn
   next o = rw (past-tail w t (k * n), told .next, told .left o)
 
 kept : (w t : List Float) (k : ℕ) → k ≤ length w → take k (take k w ++ t) ≡ take k w
 kept w t k h = take-at (take k w) t k (length-take-le k w h)
 
 abbrev Inv-loop : tie.InvT-loop
-Inv-loop w₀ rows n last first₀ k₀ w first k = ((k ≤ last) × (last ≡ min n rows)) × (length w ≡ length w₀) × (whileTo last k (goesOn rows n) (turnOf rows n) (qr k first w) ≡ decomposed rows n w₀)
+Inv-loop w₀ rows n last first₀ k₀ w first k = ((k ≤ last) × (last ≡ min n rows)) × (length w ≡ length w₀) × (whileTo last k (laidOn rows n) (laidTurn rows n) (laid k first w) ≡ laidOut rows n w₀)
 
 abbrev μ-loop : tie.MeasureT-loop
 μ-loop w₀ rows n last first₀ k₀ w first k = last - k
 
 loop-holds : tie.Need-loop-holds Inv-loop μ-loop
-unfolding decomposed
+unfolding laidOut
 loop-holds c = ((search needs, c .smaller .ensures), refl, rw (c .smaller .ensures))
 
 mul-start : tie.Need-mul-start Inv-loop μ-loop
@@ -73,7 +72,7 @@ turn-requires c κs = ((search needs, search needs), rw (tail-part, length-drop)
 
 returns : tie.Need-returns Inv-loop μ-loop
 returns c = let e = whileTo-stop _ _ _ _ _ _ (c .before .before .before .before .before .before .loop-test .taken) (stops (c .before .before .before .before .before .before .before .before .before .before .args .rows) (c .before .before .before .before .before .before .before .before .before .before .args .n) (c .before .before .before .before .before .before .before .loop .k) (c .before .before .before .before .before .before .before .loop .first) (c .before .before .before .before .before .before .before .loop .w) (c .before .before .before .before .turn .last .0) (c .before .before .before .before .turn .result) (c .before .before .before .before .turn .ensures) (not-true _ (c .if1 .taken))) (c .before .before .before .before .before .before .before .loop .inv .2) in
-    record { bounded = search needs; rank = ap rankOf e; reflectors = kept (c .before .before .before .before .before .before .before .loop .w) _ (c .before .before .before .before .before .before .before .loop .k * c .before .before .before .before .before .before .before .before .before .before .args .n) (omega (arith, cell-row (c .before .before .before .before .before .before .before .before .before .before .args .rows) (c .before .before .before .before .before .before .before .before .before .before .args .n) (c .before .before .before .before .before .before .before .loop .k) (c .before .before .before .before .before .before .before .before .before .before .args .rows * c .before .before .before .before .before .before .before .before .before .before .args .n) (search needs) (le-refl (c .before .before .before .before .before .before .before .before .before .before .args .rows * c .before .before .before .before .before .before .before .before .before .before .args .n)))) ∙ ap (reflectorsOf (c .before .before .before .before .before .before .before .before .before .before .args .n)) e }
+    record { bounded = search needs; rank = ap laidRank e; reflectors = kept (c .before .before .before .before .before .before .before .loop .w) _ (c .before .before .before .before .before .before .before .loop .k * c .before .before .before .before .before .before .before .before .before .before .args .n) (omega (arith, cell-row (c .before .before .before .before .before .before .before .before .before .before .args .rows) (c .before .before .before .before .before .before .before .before .before .before .args .n) (c .before .before .before .before .before .before .before .loop .k) (c .before .before .before .before .before .before .before .before .before .before .args .rows * c .before .before .before .before .before .before .before .before .before .before .args .n) (search needs) (le-refl (c .before .before .before .before .before .before .before .before .before .before .args .rows * c .before .before .before .before .before .before .before .before .before .before .args .n)))) ∙ ap (laidReflectors (c .before .before .before .before .before .before .before .before .before .before .args .n)) e }
 
 loop-again : tie.Need-loop-again Inv-loop μ-loop
 loop-again c = ((search needs, c .before .before .before .before .before .before .before .loop .inv .0 .1), search needs, whileTo-next _ _ _ _ _ _ _ (c .before .before .before .before .before .before .loop-test .taken) (goes (c .before .before .before .before .before .before .before .before .before .before .args .rows) (c .before .before .before .before .before .before .before .before .before .before .args .n) (c .before .before .before .before .before .before .before .loop .k) (c .before .before .before .before .before .before .before .loop .first) (c .before .before .before .before .before .before .before .loop .w) (c .before .before .before .before .turn .last .0) (c .before .before .before .before .turn .result) (c .before .before .before .before .turn .ensures) (not-false _ (c .if1 .left))) (next (c .before .before .before .before .before .before .before .before .before .before .args .rows) (c .before .before .before .before .before .before .before .before .before .before .args .n) (c .before .before .before .before .before .before .before .loop .k) (c .before .before .before .before .before .before .before .loop .first) (c .before .before .before .before .before .before .before .loop .w) (c .before .before .before .before .turn .last .0) (c .before .before .before .before .turn .result) (c .before .before .before .before .turn .ensures) (not-false _ (c .if1 .left))) (c .before .before .before .before .before .before .before .loop .inv .2))
@@ -81,7 +80,7 @@ loop-again c = ((search needs, c .before .before .before .before .before .before
 returns-2 : tie.Need-returns-2 Inv-loop μ-loop
 returns-2 c = let e = whileTo-done _ _ _ _ _ _ (c .loop-test .left) (c .before .loop .inv .2) in
     let q = le-antisymm (c .loop-test .left) (c .before .loop .inv .0 .0) in
-    record { bounded = search needs; rank = q ∙ ap rankOf e; reflectors = ap (λ x. take (x * c .before .before .before .before .args .n) (c .before .loop .w)) q ∙ ap (reflectorsOf (c .before .before .before .before .args .n)) e }
+    record { bounded = search needs; rank = q ∙ ap laidRank e; reflectors = ap (λ x. take (x * c .before .before .before .before .args .n) (c .before .loop .w)) q ∙ ap (laidReflectors (c .before .before .before .before .args .n)) e }
 
 pub decompose-spec : {M : Type 1} → statement M
 decompose-spec =

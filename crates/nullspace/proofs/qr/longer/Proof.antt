@@ -2,7 +2,7 @@ use mathlib.Core.Path.{refl}
 use borrow.Author.Tests.{lt-ltb, le-ltb}
 use Rattle.loops.specs.Picks.{pick-yes, pick-no}
 use Rattle.loops.specs.Cells.{cells}
-use Rattle.nullspace.specs.Steps.{longerRow}
+use Rattle.nullspace.specs.Layout.{longerRow}
 use borrow.Author.Needs.{needs}
 use Rattle.nullspace.proofs.qr.longer.Statement.{statement}
 use Rattle.nullspace.proofs.qr.longer.Tie as tie

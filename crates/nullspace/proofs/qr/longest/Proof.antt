@@ -3,8 +3,7 @@ use mathlib.Core.Path.{_≡_, refl}
 use borrow.Author.Needs.{needs}
 use Rattle.loops.specs.Turns.{upTo, upTo-next, upTo-done}
 use Rattle.loops.specs.Cells.{cells}
-use Rattle.nullspace.specs.Promise.{Measured}
-use Rattle.nullspace.specs.Steps.{longerRow, longestOf}
+use Rattle.nullspace.specs.Layout.{Measured, longerRow, longestOf}
 use Rattle.nullspace.proofs.qr.longest.Statement.{statement}
 use Rattle.nullspace.proofs.qr.longest.Tie as tie
 

@@ -7,14 +7,15 @@ use lib.Ieee.{Float}
 use Rattle.floats.specs.Ops.{zero⁺}
 use Rattle.loops.specs.Turns.{upTo}
 use Rattle.loops.specs.Parts.{front}
-use Rattle.nullspace.specs.Steps.{swapHead, awayAt, reflectorOf}
+use Rattle.nullspace.specs.Steps.{away}
+use Rattle.nullspace.specs.Layout.{reflectorAt, swapHead}
 use borrow.Author.Needs.{needs}
 use Rattle.nullspace.proofs.qr.make_reflector.Statement.{statement}
 use Rattle.nullspace.proofs.qr.make_reflector.Tie as tie
 
 made : (n k row : ℕ) (norm : Float) (t t₁ z y : List Float) → k ≤ length t₁ → t₁ ≡ upTo n 0 (swapHead n row) t → z ≡ replicate (length (take k t₁)) zero⁺
-    → y ≡ awayAt k norm (z ++ drop k t₁) → y ≡ reflectorOf n k row norm t
-unfolding reflectorOf
+    → y ≡ away k norm (z ++ drop k t₁) → y ≡ reflectorAt n k row norm t
+unfolding reflectorAt
 made n k row norm t t₁ z y h s q e = rw (e, q, length-take-le k t₁ h, s)
 
 slice-aggregate-clear : tie.Need-slice-aggregate-clear

@@ -1,7 +1,7 @@
 use Prim.Native.Nat.{ℕ, _+_, _-_}
 use mathlib.Core.Path.{_≡_}
 use native.Mathlib.Omega.{arith}
-use Rattle.nullspace.specs.Steps.{normAt}
+use Rattle.nullspace.specs.Layout.{normAt}
 use borrow.Author.Needs.{needs}
 use Rattle.nullspace.proofs.qr.norm_from.Statement.{statement}
 use Rattle.nullspace.proofs.qr.norm_from.Tie as tie

@@ -1,10 +1,10 @@
-use Rattle.nullspace.specs.Steps.{awayAt}
+use Rattle.nullspace.specs.Steps.{away}
 use borrow.Author.Needs.{needs}
 use Rattle.nullspace.proofs.qr.push_away.Statement.{statement}
 use Rattle.nullspace.proofs.qr.push_away.Tie as tie
 
 returns : tie.Need-returns
-unfolding awayAt
+unfolding away
 returns c = rw (c .signed .ensures)
 
 pub push-away-spec : {M : Type 1} → statement M

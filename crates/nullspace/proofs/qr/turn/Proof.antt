@@ -12,7 +12,8 @@ use Rattle.floats.specs.Ops.{zero⁺}
 use Rattle.solver.specs.Sums.{norm2Of}
 use Rattle.loops.specs.Parts.{front}
 use Rattle.loops.specs.Cells.{cell-row}
-use Rattle.nullspace.specs.Steps.{normAt, longestOf, largestNorm, ended, reflectorOf, reflectedBy, begun, turns-on, firstOf, turned}
+use Rattle.nullspace.specs.Steps.{ended}
+use Rattle.nullspace.specs.Layout.{begun, firstOf, largestNorm, longestOf, normAt, reflectedBy, reflectorAt, turned, turns-on}
 use borrow.Author.Needs.{needs}
 use Rattle.nullspace.proofs.qr.turn.Statement.{statement}
 use Rattle.nullspace.proofs.qr.turn.Tie as tie
@@ -30,7 +31,7 @@ module _ (n m k : ℕ) (first norm : Float) (t : List Float) (row : ℕ) (found 
   unfolding turns-on
   early b e o = rw (← norm-is, ← e, o)
 
-  module _ (b : Bool) (e : b ≡ ended first norm) (o : b ≡ false) (t₁ : List Float) (made : t₁ ≡ reflectorOf n k row norm t) (vv : Float) (square : vv ≡ norm2Of (take n t₁)) where
+  module _ (b : Bool) (e : b ≡ ended first norm) (o : b ≡ false) (t₁ : List Float) (made : t₁ ≡ reflectorAt n k row norm t) (vv : Float) (square : vv ≡ norm2Of (take n t₁)) where
     begun-is : t₁ ≡ begun n m k t
     unfolding begun
     begun-is = rw (← norm-is, ← found) made

@@ -3,7 +3,7 @@ use mathlib.Core.Path.{_≡_, refl}
 use borrow.Author.Needs.{needs}
 use Rattle.loops.specs.Turns.{upTo, upTo-next, upTo-done}
 use lib.Ieee.{neg, ofBits}
-use Rattle.nullspace.specs.Reflect.{addProductAt, dotAt}
+use Rattle.nullspace.specs.Layout.{addProductAt, dotAt}
 use Rattle.nullspace.proofs.reflect.dot_row.Statement.{statement}
 use Rattle.nullspace.proofs.reflect.dot_row.Tie as tie
 

@@ -3,7 +3,7 @@ use mathlib.Core.Path.{_≡_, refl}
 use lib.ListN.{length}
 use borrow.Author.Needs.{needs}
 use Rattle.loops.specs.Turns.{upTo, upTo-next, upTo-done}
-use Rattle.nullspace.specs.Reflect.{lessBy}
+use Rattle.nullspace.specs.Layout.{lessBy}
 use Rattle.nullspace.proofs.reflect.less_by.Statement.{statement}
 use Rattle.nullspace.proofs.reflect.less_by.Tie as tie
 

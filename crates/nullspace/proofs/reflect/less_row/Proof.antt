@@ -1,6 +1,6 @@
 use mathlib.Core.Path.{refl}
 use Rattle.loops.specs.Picks.{pick-yes, pick-no}
-use Rattle.nullspace.specs.Reflect.{lessRowAt}
+use Rattle.nullspace.specs.Layout.{lessRowAt}
 use borrow.Author.Needs.{needs}
 use Rattle.nullspace.proofs.reflect.less_row.Statement.{statement}
 use Rattle.nullspace.proofs.reflect.less_row.Tie as tie

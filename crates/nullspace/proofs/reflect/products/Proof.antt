@@ -5,19 +5,21 @@ use borrow.Author.Needs.{needs}
 use Rattle.loops.specs.Turns.{upTo, upTo-next, upTo-done, fold, fold-next, fold-done}
 use lib.Ieee.{nan, neg, ofBits}
 use Rattle.solver.specs.Sums.{addSquare, norm2Of}
-use Rattle.nullspace.specs.Reflect.{addProduct, dotOf}
+use Rattle.nullspace.specs.Steps.{dotOf}
+use Rattle.nullspace.specs.Layout.{addProduct}
+use Rattle.nullspace.proofs.Zips.{zip-dot}
 use Rattle.nullspace.proofs.reflect.products.Statement.{statement}
 use Rattle.nullspace.proofs.reflect.products.Tie as tie
 
 abbrev Inv-loop : tie.InvT-loop
-Inv-loop v n c dot₀ norm₀ i₀ dot norm i = (i ≤ n) × (upTo n i (addProduct v c) dot ≡ dotOf n v c) × (fold addSquare norm (drop i v) ≡ norm2Of v)
+Inv-loop v n c dot₀ norm₀ i₀ dot norm i = (i ≤ n) × (upTo n i (addProduct v c) dot ≡ dotOf v c) × (fold addSquare norm (drop i v) ≡ norm2Of v)
 
 abbrev μ-loop : tie.MeasureT-loop
 μ-loop v n c dot₀ norm₀ i₀ dot norm i = n - i
 
 loop-holds : tie.Need-loop-holds Inv-loop μ-loop
-unfolding dotOf norm2Of neg ofBits
-loop-holds c = (search needs, refl, refl)
+unfolding norm2Of neg ofBits
+loop-holds c = (search needs, zip-dot _ _ _ (c .pre .0) (c .pre .1), refl)
 
 loop-again : tie.Need-loop-again Inv-loop μ-loop
 unfolding addProduct addSquare

@@ -1,4 +1,4 @@
-use Rattle.nullspace.specs.Reflect.{reflectOf}
+use Rattle.nullspace.specs.Steps.{reflectOf}
 use borrow.Author.Needs.{needs}
 use Rattle.nullspace.proofs.reflect.reflect.Statement.{statement}
 use Rattle.nullspace.proofs.reflect.reflect.Tie as tie

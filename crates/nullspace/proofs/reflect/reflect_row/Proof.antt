@@ -1,4 +1,4 @@
-use Rattle.nullspace.specs.Reflect.{reflectAt}
+use Rattle.nullspace.specs.Layout.{reflectAt}
 use borrow.Author.Needs.{needs}
 use Rattle.nullspace.proofs.reflect.reflect_row.Statement.{statement}
 use Rattle.nullspace.proofs.reflect.reflect_row.Tie as tie

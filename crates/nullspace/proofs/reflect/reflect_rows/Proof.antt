@@ -5,8 +5,7 @@ use mathlib.Core.Path.{_≡_, refl}
 use lib.ListN.{length}
 use borrow.Author.Needs.{needs}
 use Rattle.loops.specs.Turns.{upTo, upTo-next, upTo-done}
-use Rattle.nullspace.specs.Reflect.{reflectAt}
-use Rattle.nullspace.specs.Steps.{reflectedBy}
+use Rattle.nullspace.specs.Layout.{reflectAt, reflectedBy}
 use Rattle.nullspace.proofs.reflect.reflect_rows.Statement.{statement}
 use Rattle.nullspace.proofs.reflect.reflect_rows.Tie as tie
 

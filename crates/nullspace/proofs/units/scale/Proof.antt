@@ -1,5 +1,5 @@
 use Rattle.loops.specs.Picks.{pick-yes, pick-no}
-use Rattle.nullspace.specs.Rows.{scaledBy}
+use Rattle.nullspace.specs.Steps.{scaledBy}
 use borrow.Author.Needs.{needs}
 use Rattle.nullspace.proofs.units.scale.Statement.{statement}
 use Rattle.nullspace.proofs.units.scale.Tie as tie

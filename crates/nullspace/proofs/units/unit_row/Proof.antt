@@ -1,4 +1,4 @@
-use Rattle.nullspace.specs.Rows.{unitOf}
+use Rattle.nullspace.specs.Steps.{unitOf}
 use borrow.Author.Needs.{needs}
 use Rattle.nullspace.proofs.units.unit_row.Statement.{statement}
 use Rattle.nullspace.proofs.units.unit_row.Tie as tie

@@ -11,13 +11,14 @@ use lib.Ieee.{Float}
 use borrow.Author.Needs.{needs}
 use Rattle.loops.specs.Turns.{upTo, upTo-next, upTo-done}
 use Rattle.loops.specs.Cells.{cell-row}
-use Rattle.nullspace.specs.Rows.{unitOf, addUnit, unitRows}
+use Rattle.nullspace.specs.Steps.{unitOf, unitAt}
+use Rattle.nullspace.specs.Layout.{addUnit, unitRows}
 use Rattle.nullspace.proofs.units.unit_rows.Statement.{statement}
 use Rattle.nullspace.proofs.units.unit_rows.Tie as tie
 
 unit-turn : (n i : ℕ) (m w y : List Float) → i * n + n ≤ length w → length y ≡ length (take (i * n + n - i * n) (drop (i * n) w)) → y ≡ unitOf (take (i * n + n - i * n) (drop (i * n) m))
     → take ((i + 1) * n) (take (i * n) w ++ (y ++ drop (i * n + n - i * n) (drop (i * n) w))) ≡ addUnit n m i (take (i * n) w)
-unfolding addUnit
+unfolding addUnit unitAt
 unit-turn n i m w y h s e =
     let next : (i + 1) * n ≡ i * n + n = omega arith in
     rw next (take-built (i * n) n w y h s ∙ ap (λ y. take (i * n) w ++ y) (e ∙ ap unitOf (one-row (i * n) n m)))
