@@ -2,7 +2,7 @@
 -- length of line 0 between them; the first build has a group before it, which the second has not, so that it is group 1 of the one
 -- and group 0 of the other. Assumes nothing.
 use Prim.Native.Nat.{ℕ}
-use mathlib.Core.List.{[], _∷_, List·Memᴰ, List·Memᴰ·cases-cons, List·Memᴰ·eq-of-singleton}
+use mathlib.Core.List.{[], _∷_, flatMap, List·Memᴰ, List·Memᴰ·cases-cons, List·Memᴰ·eq-of-singleton}
 use mathlib.Core.Logic.{_⊎_, inl, inr}
 use mathlib.Core.Path.{_≡_, refl, sym, _∙_}
 use lib.Ieee.{le, lt, eq, neg, ofBits}
@@ -44,7 +44,7 @@ abbrev second : Build
 second = sample origin one (pointIn Kept ∷ pointIn Kept ∷ pointIn Kept ∷ blankPoint ∷ blankPoint ∷ []) (line 3 4 ∷ []) (lengthIsOne 0 ∷ blankActive ∷ []) []
 
 pub passing : (checkOf first ≡ Passes) × (checkOf second ≡ Passes)
-unfolding checkOf le lt eq neg ofBits every fold moreRows rowsOf
+unfolding checkOf le lt eq neg ofBits every flatMap fold moreRows rowsOf
 passing = (refl, refl)
 
 grouped :
