@@ -18,7 +18,7 @@ use Rattle.sketch.specs.declared.Build.{Build}
 use Rattle.sketch.specs.declared.Ending.{Ending}
 use Rattle.sketch.specs.declared.Ending.the-variants.{Fitted, TooLong, BadForm, TooMany, OutOfBounds, NoSuchItem, TooManyRows, NotConverged, TooShort}
 use Rattle.spelling.proofs.Steps.{never}
-use Rattle.run.specs.Promise.{came}
+use Rattle.run.specs.Promise.{room, came}
 use Rattle.run.specs.Texts.{Passed}
 
 -- an ending by its number
@@ -45,41 +45,41 @@ module _ (p q r : List Float) (b : Build) where
   abbrev pub builtNumber : ℕ
   builtNumber = numberOf (answerAfter b (came p q r b) .ending)
 
-  module _ (few : overBound b ≡ false) (room : noRoom b 100 (length p) (length q) (length r) ≡ false) where
+  module _ (few : overBound b ≡ false) (lent : noRoom b (length room) (length p) (length q) (length r) ≡ false) where
     named : (e : Ending) {A : Type 0} → (answerAfter b (came p q r b) .ending ≡ e ↔ A) → builtNumber ≡ numberOf e ↔ A
     named e f = (λ h. f .0 (by-number _ e h), λ a. ap numberOf (f .1 a))
 
     pub four-of : builtNumber ≡ 4 ↔ outOfBounds b ≡ true
-    four-of = named OutOfBounds (let f = four-exactly b 100 (length p) (length q) (length r) in (λ h. f .0 h .2, λ u. f .1 (few, room, u)))
+    four-of = named OutOfBounds (let f = four-exactly b (length room) (length p) (length q) (length r) in (λ h. f .0 h .2, λ u. f .1 (few, lent, u)))
 
     pub five-of : builtNumber ≡ 5 ↔ (outOfBounds b ≡ false) × (refersToNothing b ≡ true)
-    five-of = named NoSuchItem (let f = five-exactly b 100 (length p) (length q) (length r) in (λ h. let t = f .0 h in (t .2, t .3), λ u. f .1 (few, room, u .0, u .1)))
+    five-of = named NoSuchItem (let f = five-exactly b (length room) (length p) (length q) (length r) in (λ h. let t = f .0 h in (t .2, t .3), λ u. f .1 (few, lent, u .0, u .1)))
 
     pub six-of : builtNumber ≡ 6 ↔ (outOfBounds b ≡ false) × (refersToNothing b ≡ false) × (64 < rowsOfBuild b)
     six-of =
-        named TooManyRows (let f = six-exactly b 100 (length p) (length q) (length r) in (
+        named TooManyRows (let f = six-exactly b (length room) (length p) (length q) (length r) in (
           λ h. let t = f .0 h in (t .2, t .3, ltb-true 64 (rowsOfBuild b) (t .4)),
-          λ u. f .1 (few, room, u .0, u .1, lt-ltb 64 (rowsOfBuild b) (u .2)),
+          λ u. f .1 (few, lent, u .0, u .1, lt-ltb 64 (rowsOfBuild b) (u .2)),
         ))
 
-    passed : Sound b 100 (length p) (length q) (length r) → Passed b
+    passed : Sound b (length room) (length p) (length q) (length r) → Passed b
     passed t = record { numbers = t .numbers; items = t .items; rows = ltb-false 64 (rowsOfBuild b) (t .rows) }
 
-    sound : Passed b → Sound b 100 (length p) (length q) (length r)
-    sound t = record { counts = few; room = room; numbers = t .numbers; items = t .items; rows = le-ltb 64 (rowsOfBuild b) (t .rows) }
+    sound : Passed b → Sound b (length room) (length p) (length q) (length r)
+    sound t = record { counts = few; room = lent; numbers = t .numbers; items = t .items; rows = le-ltb 64 (rowsOfBuild b) (t .rows) }
 
     pub seven-of : builtNumber ≡ 7 ↔ Passed b × SomeFails b
-    seven-of = named NotConverged (let f = seven-exactly b 100 (length p) (length q) (length r) in (λ h. let t = f .0 h in (passed (t .0), t .1), λ u. f .1 (sound (u .0), u .1)))
+    seven-of = named NotConverged (let f = seven-exactly b (length room) (length p) (length q) (length r) in (λ h. let t = f .0 h in (passed (t .0), t .1), λ u. f .1 (sound (u .0), u .1)))
 
     pub fitted-of : builtNumber ≡ 0 ↔ Passed b × AllFit b
-    fitted-of = named Fitted (let f = fitted-exactly b 100 (length p) (length q) (length r) in (λ h. let t = f .0 h in (passed (t .0), t .1), λ u. f .1 (sound (u .0), u .1)))
+    fitted-of = named Fitted (let f = fitted-exactly b (length room) (length p) (length q) (length r) in (λ h. let t = f .0 h in (passed (t .0), t .1), λ u. f .1 (sound (u .0), u .1)))
 
     -- and none of the others
     pub nine-of : builtNumber ≢ 9
-    nine-of h = never _ room (named TooShort (nine-exactly b 100 (length p) (length q) (length r)) .0 h .1)
+    nine-of h = never _ lent (named TooShort (nine-exactly b (length room) (length p) (length q) (length r)) .0 h .1)
 
     pub three-of : builtNumber ≢ 3
-    three-of h = never _ few (named TooMany (three-exactly b 100 (length p) (length q) (length r)) .0 h)
+    three-of h = never _ few (named TooMany (three-exactly b (length room) (length p) (length q) (length r)) .0 h)
 
     pub not-of-text : (e : Ending) → ofText e ≡ true → builtNumber ≢ numberOf e
-    not-of-text e t h = never _ (never-of-text b 100 (length p) (length q) (length r)) (ap ofText (by-number (answerAfter b (came p q r b) .ending) e h) ∙ t)
+    not-of-text e t h = never _ (never-of-text b (length room) (length p) (length q) (length r)) (ap ofText (by-number (answerAfter b (came p q r b) .ending) e h) ∙ t)

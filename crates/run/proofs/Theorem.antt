@@ -51,12 +51,12 @@ module _ (p q r : List Float) where
         let b = w .bounded in
         rw (le-ltb 40 (length (j .points)) (b .0), le-ltb 40 (length (j .lines)) (b .1), le-ltb 40 (length (j .equations)) (b .2), le-ltb 20 (length (j .measures)) (b .3))
 
-    -- so that 100 numbers are room for its output
-    has-room : (j : Job) → Writes s j → noRoom (buildOf j) 100 (length p) (length q) (length r) ≡ false
+    -- so that there is room for its output
+    has-room : (j : Job) → Writes s j → noRoom (buildOf j) (length room) (length p) (length q) (length r) ≡ false
     has-room j w =
         let b = w .bounded in
-        let out : 2 * length (j .points) + length (j .measures) ≤ 100 = omega (arith, b .0, b .3) in
-        rw (le-ltb 100 (2 * length (j .points) + length (j .measures)) out, le-ltb (length p) 8192 pr, le-ltb (length q) 8192 qr, le-ltb (length r) 8192 rr)
+        let out : 2 * length (j .points) + length (j .measures) ≤ length room = omega (arith, b .0, b .3) in
+        rw (le-ltb (length room) (2 * length (j .points) + length (j .measures)) out, le-ltb (length p) 8192 pr, le-ltb (length q) 8192 qr, le-ltb (length r) 8192 rr)
 
     -- 1, 2 and 3, which no build of a text has
     refused-exactly : (e : Ending) → ((j : Job) → Writes s j → builtNumber p q r (buildOf j) ≢ numberOf e)
