@@ -1,23 +1,25 @@
 -- The number of a build that a text means. Its counts are within their bounds and the lent places have room, so it is 4, 5, 6, 7 or 0,
 -- each exactly when crates/job's theorems say. Assumes nothing.
-use mathlib.Core.Bool.{true, false, cond}
+use mathlib.Core.Bool.{Bool, true, false, cond}
 use mathlib.Core.List.{List}
 use mathlib.Core.Logic.{_↔_, _≢_}
 use mathlib.Core.Path.{_≡_, refl, sym, ap, _∙_}
 use Prim.Native.Nat.{ℕ, _<_}
-use borrow.Author.Tests.{lt-ltb, le-ltb, ltb-true, ltb-false}
+use native.Mathlib.Omega.{arith}
+use borrow.Author.Tests.{le-ltb, ltb-false}
 use lib.Dec.{eqb}
 use lib.Ieee.{Float}
 use lib.ListN.{length}
-use Rattle.job.proofs.Theorem.{three-exactly, nine-exactly, four-exactly, five-exactly, six-exactly, seven-exactly, fitted-exactly, ofText, never-of-text}
-use Rattle.job.specs.Given.{SomeFails, AllFit, Sound}
-use Rattle.job.specs.Promise.{noRoom, answerAfter}
-use Rattle.sketch.specs.Check.{numberOf, overBound, outOfBounds, refersToNothing}
+use Rattle.job.proofs.Numbered.{number-is}
+use Rattle.job.proofs.Theorem.{given-exactly}
+use Rattle.job.specs.Given.{SomeFails, AllFit, Sound, GivenExactly}
+use Rattle.job.specs.Groups.{fitOf}
+use Rattle.job.specs.Promise.{noRoom, numberIn, firstRow, unfit, answerAfter}
+use Rattle.sketch.specs.Check.{numberOf, overBound, outOfBounds, refersToNothing, overRows}
 use Rattle.sketch.specs.Rows.{rowsOfBuild}
 use Rattle.sketch.specs.declared.Build.{Build}
 use Rattle.sketch.specs.declared.Ending.{Ending}
 use Rattle.sketch.specs.declared.Ending.the-variants.{Fitted, TooLong, BadForm, TooMany, OutOfBounds, NoSuchItem, TooManyRows, NotConverged, TooShort}
-use Rattle.spelling.proofs.Steps.{never}
 use Rattle.run.specs.Promise.{room, came}
 use Rattle.run.specs.Texts.{Passed}
 
@@ -41,26 +43,33 @@ at-number TooShort = refl
 pub by-number : (e f : Ending) → numberOf e ≡ numberOf f → e ≡ f
 by-number e f h = at-number e ∙ ap endingAt h ∙ sym (at-number f)
 
+-- neither 3 nor 9 comes after them
+not-before : (u m r f : Bool) → (firstRow false false u m r f ≢ 3) × (firstRow false false u m r f ≢ 9)
+not-before true m r f = (λ h. absurd (omega arith), λ h. absurd (omega arith))
+not-before false true r f = (λ h. absurd (omega arith), λ h. absurd (omega arith))
+not-before false false true f = (λ h. absurd (omega arith), λ h. absurd (omega arith))
+not-before false false false true = (λ h. absurd (omega arith), λ h. absurd (omega arith))
+not-before false false false false = (λ h. absurd (omega arith), λ h. absurd (omega arith))
+
 module _ (p q r : List Float) (b : Build) where
   abbrev pub builtNumber : ℕ
   builtNumber = numberOf (answerAfter b (came p q r b) .ending)
 
   module _ (few : overBound b ≡ false) (lent : noRoom b (length room) (length p) (length q) (length r) ≡ false) where
-    named : (e : Ending) {A : Type 0} → (answerAfter b (came p q r b) .ending ≡ e ↔ A) → builtNumber ≡ numberOf e ↔ A
-    named e f = (λ h. f .0 (by-number _ e h), λ a. ap numberOf (f .1 a))
+    given : GivenExactly b (length room) (length p) (length q) (length r)
+    given = given-exactly b (length room) (length p) (length q) (length r)
+
+    is : builtNumber ≡ numberIn b (length room) (length p) (length q) (length r)
+    is = number-is b (length room) (length p) (length q) (length r)
 
     pub four-of : builtNumber ≡ 4 ↔ outOfBounds b ≡ true
-    four-of = named OutOfBounds (let f = four-exactly b (length room) (length p) (length q) (length r) in (λ h. f .0 h .2, λ u. f .1 (few, lent, u)))
+    four-of = (λ h. given .four .0 (sym is ∙ h) .2, λ u. is ∙ given .four .1 (few, lent, u))
 
     pub five-of : builtNumber ≡ 5 ↔ (outOfBounds b ≡ false) × (refersToNothing b ≡ true)
-    five-of = named NoSuchItem (let f = five-exactly b (length room) (length p) (length q) (length r) in (λ h. let t = f .0 h in (t .2, t .3), λ u. f .1 (few, lent, u .0, u .1)))
+    five-of = (λ h. let t = given .five .0 (sym is ∙ h) in (t .2, t .3), λ u. is ∙ given .five .1 (few, lent, u .0, u .1))
 
     pub six-of : builtNumber ≡ 6 ↔ (outOfBounds b ≡ false) × (refersToNothing b ≡ false) × (64 < rowsOfBuild b)
-    six-of =
-        named TooManyRows (let f = six-exactly b (length room) (length p) (length q) (length r) in (
-          λ h. let t = f .0 h in (t .2, t .3, ltb-true 64 (rowsOfBuild b) (t .4)),
-          λ u. f .1 (few, lent, u .0, u .1, lt-ltb 64 (rowsOfBuild b) (u .2)),
-        ))
+    six-of = (λ h. let t = given .six .0 (sym is ∙ h) in (t .2, t .3, t .4), λ u. is ∙ given .six .1 (few, lent, u .0, u .1, u .2))
 
     passed : Sound b (length room) (length p) (length q) (length r) → Passed b
     passed t = record { numbers = t .numbers; items = t .items; rows = ltb-false 64 (rowsOfBuild b) (t .rows) }
@@ -69,17 +78,20 @@ module _ (p q r : List Float) (b : Build) where
     sound t = record { counts = few; room = lent; numbers = t .numbers; items = t .items; rows = le-ltb 64 (rowsOfBuild b) (t .rows) }
 
     pub seven-of : builtNumber ≡ 7 ↔ Passed b × SomeFails b
-    seven-of = named NotConverged (let f = seven-exactly b (length room) (length p) (length q) (length r) in (λ h. let t = f .0 h in (passed (t .0), t .1), λ u. f .1 (sound (u .0), u .1)))
+    seven-of = (λ h. let t = given .seven .0 (sym is ∙ h) in (passed (t .0), t .1), λ u. is ∙ given .seven .1 (sound (u .0), u .1))
 
     pub fitted-of : builtNumber ≡ 0 ↔ Passed b × AllFit b
-    fitted-of = named Fitted (let f = fitted-exactly b (length room) (length p) (length q) (length r) in (λ h. let t = f .0 h in (passed (t .0), t .1), λ u. f .1 (sound (u .0), u .1)))
+    fitted-of = (λ h. let t = given .fitted .0 (sym is ∙ h) in (passed (t .0), t .1), λ u. is ∙ given .fitted .1 (sound (u .0), u .1))
 
     -- and none of the others
-    pub nine-of : builtNumber ≢ 9
-    nine-of h = never _ lent (named TooShort (nine-exactly b (length room) (length p) (length q) (length r)) .0 h .1)
+    pub not-of-text : (builtNumber ≢ 1) × (builtNumber ≢ 2)
+    not-of-text = (λ h. given .not-of-text .0 (sym is ∙ h), λ h. given .not-of-text .1 (sym is ∙ h))
+
+    later : builtNumber ≡ firstRow false false (outOfBounds b) (refersToNothing b) (overRows b) (unfit (fitOf b))
+    later = is ∙ rw (few, lent)
 
     pub three-of : builtNumber ≢ 3
-    three-of h = never _ few (named TooMany (three-exactly b (length room) (length p) (length q) (length r)) .0 h)
+    three-of h = not-before (outOfBounds b) (refersToNothing b) (overRows b) (unfit (fitOf b)) .0 (sym later ∙ h)
 
-    pub not-of-text : (e : Ending) → ofText e ≡ true → builtNumber ≢ numberOf e
-    not-of-text e t h = never _ (never-of-text b (length room) (length p) (length q) (length r)) (ap ofText (by-number (answerAfter b (came p q r b) .ending) e h) ∙ t)
+    pub nine-of : builtNumber ≢ 9
+    nine-of h = not-before (outOfBounds b) (refersToNothing b) (overRows b) (unfit (fitOf b)) .1 (sym later ∙ h)

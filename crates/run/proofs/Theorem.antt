@@ -99,8 +99,8 @@ module _ (p q r : List Float) where
           let few = counts-few in
           let has = has-room in
           record {
-            one = Iff·trans (says 1 (omega arith)) (Iff·trans (refused-exactly TooLong (λ j w. not-of-text p q r (buildOf j) (few j w) (has j w) TooLong refl)) (reads-form s .one));
-            two = Iff·trans (says 2 (omega arith)) (Iff·trans (refused-exactly BadForm (λ j w. not-of-text p q r (buildOf j) (few j w) (has j w) BadForm refl)) (reads-form s .two));
+            one = Iff·trans (says 1 (omega arith)) (Iff·trans (refused-exactly TooLong (λ j w. not-of-text p q r (buildOf j) (few j w) (has j w) .0)) (reads-form s .one));
+            two = Iff·trans (says 2 (omega arith)) (Iff·trans (refused-exactly BadForm (λ j w. not-of-text p q r (buildOf j) (few j w) (has j w) .1)) (reads-form s .two));
             three = Iff·trans (says 3 (omega arith)) (Iff·trans (refused-exactly TooMany (λ j w. three-of p q r (buildOf j) (few j w) (has j w))) (reads-form s .three));
             four = Iff·trans (says 4 (omega arith)) (built-exactly 4 _ refl (λ j w. four-of p q r (buildOf j) (few j w) (has j w)));
             five = Iff·trans (says 5 (omega arith)) (built-exactly 5 _ refl (λ j w. five-of p q r (buildOf j) (few j w) (has j w)));
