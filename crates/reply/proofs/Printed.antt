@@ -21,7 +21,7 @@ use Rattle.spelling.specs.Printed.{decimal}
 use Rattle.reply.specs.Figures.{comma, newline, whole, float}
 use Rattle.reply.specs.Lines.{statusLine, totalLines, groupLine, failedLine, suspectLine, pointLine, measureLine}
 use Rattle.reply.specs.Reply.{rising, groupLines, outputLines, fittedLines, markCount, failedLines, linesAfter, replyOf}
-use Rattle.reply.specs.Theorems.{gLine, xLine, mLine, cLine, both, PrintsFit, PrintsFailure, PrintsNumber, MarkedAre, markedFrom}
+use Rattle.reply.specs.Theorems.{gLine, xLine, mLine, cLine, twoOf, PrintsFit, PrintsFailure, PrintsNumber, SuspectsAre, suspectsFrom}
 
 -- ---- from the front
 
@@ -48,8 +48,8 @@ module _ (line : ℕ → List ℕ) where
   first-marked false k l = refl
 
   rising-marked : (marks : List Bool) (k : ℕ) (f : ℕ → List ℕ) → ((i : ℕ) → i < length marks → f i ≡ cond (getD marks i false) (line (k + i)) [])
-      → rising f (length marks) ≡ flatMap line (markedFrom k marks)
-  unfolding rising flatMap markedFrom
+      → rising f (length marks) ≡ flatMap line (suspectsFrom k marks)
+  unfolding rising flatMap suspectsFrom
   rising-marked [] k f e = refl
   rising-marked (b ∷ marks) k f e =
       let here : k + 0 ≡ k = omega arith in
@@ -57,14 +57,14 @@ module _ (line : ℕ → List ℕ) where
       ∙ ap₂ _++_
       (rw here at (e 0 (omega arith)))
       (rising-marked marks (k + 1) (λ i. f (suc i)) (λ i h. let next : k + suc i ≡ k + 1 + i = omega arith in rw next at (e (suc i) (omega arith))))
-      ∙ first-marked b k (markedFrom (k + 1) marks)
+      ∙ first-marked b k (suspectsFrom (k + 1) marks)
 
-marked-in : (marks : List Bool) (k j : ℕ) → List·Memᴰ j (markedFrom k marks) → (k ≤ j) × (getD marks (j - k) false ≡ true)
-unfolding markedFrom
+marked-in : (marks : List Bool) (k j : ℕ) → List·Memᴰ j (suspectsFrom k marks) → (k ≤ j) × (getD marks (j - k) false ≡ true)
+unfolding suspectsFrom
 marked-in [] k j m = absurd (List·Memᴰ·not-nil m)
 marked-in (true ∷ marks) k j m = go (marked-in marks (k + 1) j) (List·Memᴰ·cases-cons m)
   where
-    go : (List·Memᴰ j (markedFrom (k + 1) marks) → (k + 1 ≤ j) × (getD marks (j - (k + 1)) false ≡ true)) → (j ≡ k) ⊎ List·Memᴰ j (markedFrom (k + 1) marks)
+    go : (List·Memᴰ j (suspectsFrom (k + 1) marks) → (k + 1 ≤ j) × (getD marks (j - (k + 1)) false ≡ true)) → (j ≡ k) ⊎ List·Memᴰ j (suspectsFrom (k + 1) marks)
         → (k ≤ j) × (getD (true ∷ marks) (j - k) false ≡ true)
     go later (inl e) = let z : j - k ≡ 0 = omega arith in (omega arith, rw z refl)
     go later (inr n) = let t = later n in let z : j - k ≡ suc (j - (k + 1)) = omega (arith, t .0) in (omega (arith, t .0), rw z (t .1))
@@ -73,22 +73,22 @@ marked-in (false ∷ marks) k j m =
     let z : j - k ≡ suc (j - (k + 1)) = omega (arith, t .0) in
     (omega (arith, t .0), rw z (t .1))
 
-in-marked : (marks : List Bool) (k i : ℕ) → getD marks i false ≡ true → List·Memᴰ (k + i) (markedFrom k marks)
-unfolding markedFrom
+in-marked : (marks : List Bool) (k i : ℕ) → getD marks i false ≡ true → List·Memᴰ (k + i) (suspectsFrom k marks)
+unfolding suspectsFrom
 in-marked [] k i e = let no : _≡_ {A = Bool} false true = e in let z : _≡_ {A = ℕ} 0 1 = cc in absurd (omega arith)
 in-marked (true ∷ marks) k zero e = List·Memᴰ·head (add-zero k)
 in-marked (true ∷ marks) k (suc i) e = let next : k + 1 + i ≡ k + suc i = omega arith in List·Memᴰ·tail (rw next at (in-marked marks (k + 1) i e))
 in-marked (false ∷ marks) k zero e = let z : _≡_ {A = ℕ} 0 1 = cc in absurd (omega arith)
 in-marked (false ∷ marks) k (suc i) e = let next : k + suc i ≡ k + 1 + i = omega arith in rw next (in-marked marks (k + 1) i e)
 
-marked-rise : (marks : List Bool) (k : ℕ) → Pairwise _<_ (markedFrom k marks)
-unfolding markedFrom
+marked-rise : (marks : List Bool) (k : ℕ) → Pairwise _<_ (suspectsFrom k marks)
+unfolding suspectsFrom
 marked-rise [] k = Pairwise·nil
 marked-rise (true ∷ marks) k = Pairwise·cons {a = k} (λ j m. ∥∥₁-elim m le-prop (λ d. omega (arith, marked-in marks (k + 1) j d .0))) (marked-rise marks (k + 1))
 marked-rise (false ∷ marks) k = marked-rise marks (k + 1)
 
-pub marked-are : (marks : List Bool) → MarkedAre marks
-marked-are marks = record {
+pub suspects-are : (marks : List Bool) → SuspectsAre marks
+suspects-are marks = record {
   rise = marked-rise marks 0;
   exactly = λ k. (
     λ m. ∥∥₁-elim m (Bool-set _ _) (λ d. let z : k - 0 ≡ k = omega arith in rw z at (marked-in marks 0 k d .1)),
@@ -99,33 +99,33 @@ marked-are marks = record {
 -- ---- the output: two numbers for each point, then the measures
 
 module _ (t : List Float) where
-  x-at : (ps : List (Float × Float)) (i : ℕ) → i < length ps → getD (flatMap both ps ++ t) (2 * i) nan ≡ getD ps i (nan, nan) .0
+  x-at : (ps : List (Float × Float)) (i : ℕ) → i < length ps → getD (flatMap twoOf ps ++ t) (2 * i) nan ≡ getD ps i (nan, nan) .0
   unfolding flatMap
   x-at [] i h = absurd (not-suc-le-zero h)
   x-at (p ∷ ps) zero h = refl
   x-at (p ∷ ps) (suc i) h = let e : 2 * suc i ≡ suc (suc (2 * i)) = omega arith in rw e (x-at ps i (le-of-suc-le-suc h))
 
-  y-at : (ps : List (Float × Float)) (i : ℕ) → i < length ps → getD (flatMap both ps ++ t) (2 * i + 1) nan ≡ getD ps i (nan, nan) .1
+  y-at : (ps : List (Float × Float)) (i : ℕ) → i < length ps → getD (flatMap twoOf ps ++ t) (2 * i + 1) nan ≡ getD ps i (nan, nan) .1
   unfolding flatMap
   y-at [] i h = absurd (not-suc-le-zero h)
   y-at (p ∷ ps) zero h = refl
   y-at (p ∷ ps) (suc i) h = let e : 2 * suc i + 1 ≡ suc (suc (2 * i + 1)) = omega arith in rw e (y-at ps i (le-of-suc-le-suc h))
 
-both-long : (ps : List (Float × Float)) → length (flatMap both ps) ≡ 2 * length ps
+two-long : (ps : List (Float × Float)) → length (flatMap twoOf ps) ≡ 2 * length ps
 unfolding flatMap
-both-long [] = refl
-both-long (p ∷ ps) = omega (arith, both-long ps)
+two-long [] = refl
+two-long (p ∷ ps) = omega (arith, two-long ps)
 
 module _ (ps : List (Float × Float)) (ms past : List Float) where
-  point-at : (i : ℕ) → i < length ps → pointLine (flatMap both ps ++ (ms ++ past)) i ≡ xLine (getD ps i (nan, nan))
+  point-at : (i : ℕ) → i < length ps → pointLine (flatMap twoOf ps ++ (ms ++ past)) i ≡ xLine (getD ps i (nan, nan))
   unfolding pointLine
   point-at i h = ap₂ (λ x y. ascii "x=" ++ float x comma ++ float y newline) (x-at (ms ++ past) ps i h) (y-at (ms ++ past) ps i h)
 
-  measure-at : (j : ℕ) → j < length ms → measureLine (flatMap both ps ++ (ms ++ past)) (2 * length ps + j) ≡ mLine (getD ms j nan)
+  measure-at : (j : ℕ) → j < length ms → measureLine (flatMap twoOf ps ++ (ms ++ past)) (2 * length ps + j) ≡ mLine (getD ms j nan)
   unfolding measureLine
-  measure-at j h = ap mLine (get-past (flatMap both ps) (ms ++ past) (2 * length ps) j nan (both-long ps) ∙ List·getD-append ms past nan j h)
+  measure-at j h = ap mLine (get-past (flatMap twoOf ps) (ms ++ past) (2 * length ps) j nan (two-long ps) ∙ List·getD-append ms past nan j h)
 
-  output-each : outputLines (flatMap both ps ++ (ms ++ past)) (length ps) (length ms) ≡ flatMap xLine ps ++ flatMap mLine ms
+  output-each : outputLines (flatMap twoOf ps ++ (ms ++ past)) (length ps) (length ms) ≡ flatMap xLine ps ++ flatMap mLine ms
   unfolding outputLines
   output-each = ap₂ _++_ (rising-each xLine (nan, nan) ps _ point-at) (rising-each mLine nan ms _ measure-at)
 
@@ -198,7 +198,7 @@ totals-are a n e = rw e
 
 fitted-each : (a : Answer) (gs unused : List GroupFit) (ps : List (Float × Float)) (ms past : List Float) (p m : ℕ)
     → length gs ≤ 40 → a .groups ≡ gs ++ unused → a .«group_count» ≡ length gs → p ≡ length ps → m ≡ length ms
-    → fittedLines a (flatMap both ps ++ (ms ++ past)) p m ≡ totals a (length gs) ++ flatMap gLine gs ++ (flatMap xLine ps ++ flatMap mLine ms)
+    → fittedLines a (flatMap twoOf ps ++ (ms ++ past)) p m ≡ totals a (length gs) ++ flatMap gLine gs ++ (flatMap xLine ps ++ flatMap mLine ms)
 unfolding fittedLines
 fitted-each a gs unused ps ms past p m h e n i j = rw (i, j) (ap₂ _++_ (ap₂ _++_ (totals-are a (length gs) n) (group-each a gs unused h e n)) (output-each ps ms past))
 
@@ -217,11 +217,11 @@ after-failed : (e : Ending) (a : Answer) (out : List Float) (p m : ℕ) → e �
 unfolding statusLine whole decimal
 after-failed e a out p m h = rw h
 
-suspects-each : (marks : List Bool) → length marks ≡ 40 → rising (suspectLine marks) markCount ≡ flatMap cLine (markedFrom 0 marks)
+suspects-each : (marks : List Bool) → length marks ≡ 40 → rising (suspectLine marks) markCount ≡ flatMap cLine (suspectsFrom 0 marks)
 suspects-each marks e = rw (← e) (rising-marked cLine marks 0 (suspectLine marks) (λ k h. suspect-at marks k))
 
 failed-each : (a : Answer) (g : GroupFit) (unused : List GroupFit) → a .groups ≡ g ∷ unused → length (a .suspects) ≡ 40
-    → failedLines a ≡ failedLine g ++ flatMap cLine (markedFrom 0 (a .suspects))
+    → failedLines a ≡ failedLine g ++ flatMap cLine (suspectsFrom 0 (a .suspects))
 unfolding failedLines
 failed-each a g unused e n = ap₂ _++_ (ap (λ l. failedLine (getD l 0 blankGroup)) e) (suspects-each (a .suspects) n)
 

@@ -15,7 +15,8 @@ use Rattle.spelling.specs.Printed.{wholeText, floatText}
 use Rattle.reply.specs.Figures.{comma, newline, whole, float}
 use Rattle.reply.specs.Reply.{replyOf}
 
--- ---- what is printed (document 01, "The text"), said by lists and not by the places of arrays
+-- ---- what is printed (document 01, "The text"), said by lists and not by the places of arrays: `prints-fit`, `prints-failure`,
+-- `suspects-are` and `prints-number` (proofs/Printed.antt)
 
 -- "A `g` line is lowest point, freedom, iterations, tries"
 abbrev pub gLine : GroupFit → List ℕ
@@ -31,8 +32,8 @@ abbrev pub cLine : ℕ → List ℕ
 cLine k = ascii "c=" ++ whole k newline
 
 -- the numbers of a point, as they stand in the output
-abbrev pub both : Float × Float → List Float
-both p = p .0 ∷ p .1 ∷ []
+abbrev pub twoOf : Float × Float → List Float
+twoOf p = p .0 ∷ p .1 ∷ []
 
 -- 0: the totals, then a `g` line for each group, an `x` line for each point and an `m` line for each measure, in their order. The
 -- groups stand at the head of the answer's, and the output holds the points, then the measures.
@@ -41,7 +42,7 @@ PrintsFit = (a : Answer) (groups unused : List GroupFit) (points : List (Float �
     → numberOf (a .ending) ≡ 0
     → a .groups ≡ groups ++ unused → a .«group_count» ≡ length groups
     → length groups ≤ 40 → length points ≤ 40 → length measures ≤ 20
-    → replyOf a (flatMap both points ++ (measures ++ past)) (length points) (length measures)
+    → replyOf a (flatMap twoOf points ++ (measures ++ past)) (length points) (length measures)
     ≡ ascii "status=0\n"
     ++ ascii "groups=" ++ whole (length groups) newline
     ++ ascii "freedom=" ++ whole (a .freedom) newline
@@ -51,17 +52,17 @@ PrintsFit = (a : Answer) (groups unused : List GroupFit) (points : List (Float �
     ++ flatMap mLine measures
 
 -- the numbers of the places that are marked, where the first place is k
-unfoldable pub markedFrom : ℕ → List Bool → List ℕ
-markedFrom k [] = []
-markedFrom k (b ∷ marks) = cond b (k ∷ markedFrom (k + 1) marks) (markedFrom (k + 1) marks)
+unfoldable pub suspectsFrom : ℕ → List Bool → List ℕ
+suspectsFrom k [] = []
+suspectsFrom k (b ∷ marks) = cond b (k ∷ suspectsFrom (k + 1) marks) (suspectsFrom (k + 1) marks)
 
-abbrev pub markedOf : List Bool → List ℕ
-markedOf marks = markedFrom 0 marks
+abbrev pub suspectsIn : List Bool → List ℕ
+suspectsIn marks = suspectsFrom 0 marks
 
 -- they rise, so that each stands there once, and k is one of them exactly when place k is marked
-pub record MarkedAre (marks : List Bool) : Type 0 where
-  pub rise : Pairwise _<_ (markedOf marks)
-  pub exactly : (k : ℕ) → List·Mem k (markedOf marks) ↔ getD marks k false ≡ true
+pub record SuspectsAre (marks : List Bool) : Type 0 where
+  pub rise : Pairwise _<_ (suspectsIn marks)
+  pub exactly : (k : ℕ) → List·Mem k (suspectsIn marks) ↔ getD marks k false ≡ true
 
 -- 7: one `g` line of the answer's first group, its lowest point, iterations and tries, and a `c` line for each of the 40 equations
 -- that is marked
@@ -72,7 +73,7 @@ PrintsFailure = (a : Answer) (failing : GroupFit) (unused : List GroupFit) (out 
     → replyOf a out points measures
     ≡ ascii "status=7\n"
     ++ ascii "g=" ++ whole (failing .lowest) comma ++ whole (failing .iterations) comma ++ whole (failing .tries) newline
-    ++ flatMap cLine (markedOf (a .suspects))
+    ++ flatMap cLine (suspectsIn (a .suspects))
 
 -- any other number: the status line alone
 abbrev pub PrintsNumber : Type 0
