@@ -163,7 +163,7 @@ module _ (s : List ℕ) where
   read-whole h = let n = countsAt s in let b = buildAt s n in read-is (tooLong s) (badCounts n) (overCounts n) (badRest s b) (b .build) h
 
   -- one of the four
-  cases : (P : Reading → Type 0) → P (refusedWith Ending.TooLong) → P (refusedWith Ending.BadForm) → P (refusedWith Ending.TooMany)
+  pub cases : (P : Reading → Type 0) → P (refusedWith Ending.TooLong) → P (refusedWith Ending.BadForm) → P (refusedWith Ending.TooMany)
       → ((b : Build) → P (record { outcome = Outcome.Read; build = b })) → P (readOf s)
   unfolding readOf
   cases P p q v w = let n = countsAt s in let b = buildAt s n in one-of (tooLong s) (badCounts n) (overCounts n) (badRest s b) (b .build) P p q v (w (b .build))

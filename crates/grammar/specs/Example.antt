@@ -1,11 +1,11 @@
--- Document 01's example, and lines of every sort: what is written and its text, which compute.
+-- Document 01's example, a placed point and a line: what is written and its text, which compute. The lines of the kinds are in Lines.antt.
 use mathlib.Core.List.{[], _∷_, _++_}
 use mathlib.Core.Path.{_≡_, refl}
 use Rattle.phrases.specs.declared.Kind.{Kind}
 use Rattle.spelling.specs.Letters.{ascii}
 use Rattle.spelling.specs.Printed.{decimal, wholeText, hexadecimal, hexDigit}
-use Rattle.grammar.specs.Job.{axisX, axisY, plus, minus, byPoint, plain, outside, inside, ofAxisDistance, ofDistance, free, kept, placed, Job}
-use Rattle.grammar.specs.Printed.{pointLineText, lineLineText, equationLineText, measureLineText, jobText}
+use Rattle.grammar.specs.Job.{axisY, ofDistance, free, kept, placed, Job}
+use Rattle.grammar.specs.Printed.{pointLineText, lineLineText, jobText}
 
 example : Job
 example = record {
@@ -41,19 +41,3 @@ a-placed-point = refl
 a-line : lineLineText (record { from = 0; to = 12 }) ≡ ascii "l=0,12\n"
 unfolding decimal
 a-line = refl
-
-two-circles : equationLineText (record { kind = Kind.CircleCircle; contents = (0, (byPoint 2, (1, (plain 0x3ff0_0000_0000_0000, (outside, tt))))) })
-    ≡ ascii "e=circlecircle,0,p,2,1,v,3ff0000000000000,o\n"
-unfolding decimal hexadecimal hexDigit
-two-circles = refl
-
-inside-it : equationLineText (record { kind = Kind.CircleCircle; contents = (0, (byPoint 2, (1, (byPoint 3, (inside plus, tt))))) }) ≡ ascii "e=circlecircle,0,p,2,1,p,3,+\n"
-unfolding decimal
-inside-it = refl
-
-held-has-none : equationLineText (record { kind = Kind.Held; contents = tt }) ≡ ascii "e=held\n"
-held-has-none = refl
-
-no-value : measureLineText (record { gauge = ofAxisDistance; contents = (3, (4, (axisX, (minus, tt)))) }) ≡ ascii "m=axisdistance,3,4,x,-\n"
-unfolding decimal
-no-value = refl

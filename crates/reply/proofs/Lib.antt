@@ -4,8 +4,10 @@
 --     Short      no reply is longer than 8,192 bytes
 --     Bare       a job that is not fitted prints no coordinates
 --     Spelled    numbers are spelled as a job spells them
+--     Printed    what is printed after each number
 pub mod Laws
 pub mod Written
 pub mod Short
 pub mod Bare
 pub mod Spelled
+pub mod Printed

@@ -16,7 +16,7 @@ use Rattle.sketch.specs.declared.Ending.the-variants.{Fitted, TooLong, BadForm,
 use Rattle.spelling.proofs.Digits.{decimal-short, hexadecimal-long}
 use Rattle.reply.specs.Figures.{comma, newline, whole, float}
 use Rattle.reply.specs.Lines.{statusLine, totalLines, groupLine, failedLine, suspectLine, pointLine, measureLine}
-use Rattle.reply.specs.Reply.{rising, groupLines, outputLines, fittedLines, failedLines, linesAfter, replyOf}
+use Rattle.reply.specs.Reply.{rising, groupLines, outputLines, fittedLines, markCount, failedLines, linesAfter, replyOf}
 use Rattle.reply.specs.Theorems.{NoneLonger}
 
 either : (b : Bool) (x y : List ℕ) (k : ℕ) → length x ≤ k → length y ≤ k → length (cond b x y) ≤ k
@@ -82,7 +82,7 @@ after-short Fitted a out p m h k =
       sorted-short (λ j. measureLine out (2 * p + j)) 19 m 20 k (λ j. measure-short out (2 * p + j)),
     ))
 after-short NotConverged a out p m h k =
-    simp length-append (omega (arith, failed-short (getD (a .groups) 0 blankGroup), rising-short (suspectLine (a .suspects)) 23 (suspect-short (a .suspects)) 40))
+    simp length-append (omega (arith, failed-short (getD (a .groups) 0 blankGroup), rising-short (suspectLine (a .suspects)) 23 (suspect-short (a .suspects)) markCount))
 after-short TooLong a out p m h k = omega arith
 after-short BadForm a out p m h k = omega arith
 after-short TooMany a out p m h k = omega arith

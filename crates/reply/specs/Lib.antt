@@ -4,7 +4,7 @@
 --     Reply      the reply, a definition of the answer and the output
 --     Promise    what `write` promises
 --     Laid       bytes one after another in a lent slice, which the contracts inside are said by
---     Theorems   how long a reply is at most, what it does not carry, and that its numbers are spelled as a job's
+--     Theorems   what is printed after each number; how long a reply is at most, what it does not carry, how its numbers are spelled
 --     Cases      document 01's example and others, worked
 pub mod Figures
 pub mod Lines

@@ -26,8 +26,12 @@ outputLines out p m = rising (pointLine out) p ++ rising (λ j. measureLine out 
 unfoldable pub fittedLines : Answer → List Float → ℕ → ℕ → List ℕ
 fittedLines a out p m = totalLines a ++ groupLines a ++ outputLines out p m
 
+-- so many equations an answer may mark as suspects
+abbrev pub markCount : ℕ
+markCount = 40
+
 unfoldable pub failedLines : Answer → List ℕ
-failedLines a = failedLine (getD (a .groups) 0 blankGroup) ++ rising (suspectLine (a .suspects)) 40
+failedLines a = failedLine (getD (a .groups) 0 blankGroup) ++ rising (suspectLine (a .suspects)) markCount
 
 abbrev pub linesAfter : Ending → Answer → List Float → ℕ → ℕ → List ℕ
 linesAfter Fitted a out p m = fittedLines a out p m

@@ -3,7 +3,7 @@ ghost use mathlib.Core.Path.{_≡_};
 ghost use Prim.Native.Nat.{_≤_, _+_, _*_};
 ghost use Rattle.reply.specs.Laid.{laid, laying};
 ghost use Rattle.reply.specs.Lines.{suspectLine, pointLine, measureLine};
-ghost use Rattle.reply.specs.Reply.{rising, groupLines, outputLines, fittedLines, failedLines, linesAfter, replyOf};
+ghost use Rattle.reply.specs.Reply.{rising, groupLines, outputLines, fittedLines, markCount, failedLines, linesAfter, replyOf};
 use crate::lines::failed_line;
 use crate::lines::group_line;
 use crate::lines::measure_line;
@@ -51,7 +51,7 @@ fn measure_lines(reply: &mut [u8], at: usize, out: &[f64], p: usize, m: usize) -
 }
 
 fn suspect_lines(reply: &mut [u8], at: usize, suspects: [bool; 40]) -> usize
-    ensures { λ r. ⌜ laid r (now (reply .exit)) ≡ laying (rising (suspectLine suspects) 40) (laid at (now (reply .entry))) ⌝ }
+    ensures { λ r. ⌜ laid r (now (reply .exit)) ≡ laying (rising (suspectLine suspects) markCount) (laid at (now (reply .entry))) ⌝ }
 {
     let mut next = at;
     for k in 0..40usize {

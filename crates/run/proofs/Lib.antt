@@ -1,1 +1,9 @@
+-- Laws, and the theorem on texts.
+--     Joined     from what reading, the job and writing promise to the promise of a run
+--     Said       the number on a reply's first line
+--     Built      the number of a build that a text means, by crates/job's theorems
+--     Theorem    the number of a text
 pub mod Joined
+pub mod Said
+pub mod Built
+pub mod Theorem

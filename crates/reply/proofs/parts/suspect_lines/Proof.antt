@@ -5,17 +5,17 @@ use borrow.Author.Needs.{needs}
 use lib.ListN.{length}
 use Rattle.reply.specs.Laid.{laid, laying}
 use Rattle.reply.specs.Lines.{suspectLine}
-use Rattle.reply.specs.Reply.{rising}
+use Rattle.reply.specs.Reply.{rising, markCount}
 use Rattle.reply.proofs.Laws.{rising-start, rising-next, rising-done}
 use Rattle.reply.proofs.parts.suspect_lines.Statement.{statement}
 use Rattle.reply.proofs.parts.suspect_lines.Tie as tie
 
 abbrev Inv-loop : tie.InvT-loop
 Inv-loop reply₀ at suspects next₀ k₀ reply next k =
-    (k ≤ 40) × (length reply ≡ length reply₀) × (laid next reply ≡ laying (rising (suspectLine suspects) k) (laid at reply₀))
+    (k ≤ markCount) × (length reply ≡ length reply₀) × (laid next reply ≡ laying (rising (suspectLine suspects) k) (laid at reply₀))
 
 abbrev μ-loop : tie.MeasureT-loop
-μ-loop reply₀ at suspects next₀ k₀ reply next k = 40 - k
+μ-loop reply₀ at suspects next₀ k₀ reply next k = markCount - k
 
 loop-holds : tie.Need-loop-holds Inv-loop μ-loop
 loop-holds c = (search needs, refl, rising-start _ _)
