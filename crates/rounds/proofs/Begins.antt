@@ -18,7 +18,7 @@ use Rattle.sketch.specs.declared.Active.{Active}
 use Rattle.sketch.specs.declared.Line.{Line}
 use Rattle.solver.specs.Sums.{norm2Of}
 use Rattle.rounds.specs.Column.{column-is, values-long, rows-few}
-use Rattle.rounds.specs.Held.{startedFit, endedOf}
+use Rattle.rounds.specs.Held.{Begun, startedFit, endedOf}
 use Rattle.rounds.specs.Problem.{rowCount, valuesAt, jacobianAt, problemOf, stateOf}
 use Rattle.rounds.specs.Promise.{saying, answerOf, outcomeOf, tooMany, tooShort, zeroed, Solves}
 use Rattle.rounds.specs.Solve.{Problem, Outcome, converged, failed, within, roundsOf, solveOf}
@@ -52,20 +52,17 @@ module _ (P : Problem) (J : List Float → List Float) (x r : List Float) (own :
 abbrev count : Laid → ℕ
 count (laid n r) = n
 
-module _ (es : List Active) (ls : List Line) (places chosen : List ℕ) (x r r′ : List Float) (n : ℕ) (few : length chosen ≤ 40) (long : length r ≡ 80)
-    (e : laid n r′ ≡ columnOf es ls places x chosen r) where
-  laid-out : laid n r′ ≡ laid (rowCount es chosen) (valuesAt es ls places chosen x ++ drop (rowCount es chosen) r)
-  laid-out = let room : rowCount es chosen ≤ length r = rw long (rows-few es chosen few) in e ∙ column-is es ls places chosen x r few room
-
-  pub counted : n ≡ rowCount es chosen
-  counted = ap count laid-out
-
-  pub at-most : n ≤ 80
-  at-most = rw counted (rows-few es chosen few)
-
-  pub values-first : take n r′ ≡ valuesAt es ls places chosen x
-  values-first =
-      rw (ap laidIn laid-out) (take-at (valuesAt es ls places chosen x) (drop (rowCount es chosen) r) n (values-long es ls places chosen x ∙ sym counted))
+pub begun : (es : List Active) (ls : List Line) (places chosen : List ℕ) (x r r′ : List Float) (n : ℕ) → length chosen ≤ 40 → length r ≡ 80
+    → laid n r′ ≡ columnOf es ls places x chosen r → Begun es ls places chosen x r′ n
+begun es ls places chosen x r r′ n few long e =
+    let room : rowCount es chosen ≤ length r = rw long (rows-few es chosen few) in
+    let l : laid n r′ ≡ laid (rowCount es chosen) (valuesAt es ls places chosen x ++ drop (rowCount es chosen) r) = e ∙ column-is es ls places chosen x r few room in
+    let c : n ≡ rowCount es chosen = ap count l in
+    record {
+      counted = c;
+      few = rw c (rows-few es chosen few);
+      own = rw (ap laidIn l) (take-at (valuesAt es ls places chosen x) (drop (rowCount es chosen) r) n (values-long es ls places chosen x ∙ sym c));
+    }
 
 pub table : (m n : ℕ) → m ≤ 80 → n ≤ 80 → m * n ≤ 6400
 table m n h k = mul-le-mul h k
@@ -119,12 +116,12 @@ copied-back y x rest x′ l e = copied-whole y x x′ (sym l) (rw (take-at y res
 module _ (es : List Active) (ls : List Line) (places columns chosen free : List ℕ) (x a b c : List Float) where
   pub refused-many : (s : Solved) → tooMany es ls places columns chosen free x a b c ≡ true → s ≡ saying TooMany 0 0
       → Solves es ls places columns chosen free x a b c x a b c s
-  refused-many s h e = record { answer = rw (h, e); coordinates = rw h; jacobian = rw h; product = rw h; copy = rw h }
+  refused-many s h e = record { answer = rw (h, e); meaning = rw (e, h); coordinates = rw h; jacobian = rw h; product = rw h; copy = rw h }
 
   module _ (m : tooMany es ls places columns chosen free x a b c ≡ false) where
     pub refused-short : (s : Solved) → tooShort es ls places columns chosen free x a b c ≡ true → s ≡ saying TooShort 0 0
         → Solves es ls places columns chosen free x a b c x a b c s
-    refused-short s h e = record { answer = rw (m, h, e); coordinates = rw (m, h); jacobian = rw (m, h); product = rw (m, h); copy = rw (m, h) }
+    refused-short s h e = record { answer = rw (m, h, e); meaning = rw (e, m, h); coordinates = rw (m, h); jacobian = rw (m, h); product = rw (m, h); copy = rw (m, h) }
 
     module _ (n : tooShort es ls places columns chosen free x a b c ≡ false) (here here′ a′ b′ c′ : List Float) (e : Ended) (s : Solved) (begins : here ≡ x)
         (o : endedOf here′ e ≡ outcomeOf es ls places columns chosen free here) (ea : a′ ≡ zeroed (rowCount es chosen * length free) a)
@@ -135,9 +132,9 @@ module _ (es : List Active) (ls : List Line) (places columns chosen free : List 
       pub done-failed : e .converged ≡ false → Solves es ls places columns chosen free x a b c x a′ b′ c′ s
       done-failed f =
           let g : failed (e .fit .iterations) (e .fit .tries) ≡ outcomeOf es ls places columns chosen free x = rw f at came in
-          record { answer = rw (m, n, ← g, t, f); coordinates = rw (m, n, ← g); jacobian = rw (m, n, ea); product = rw (m, n, eb); copy = rw (m, n, ec) }
+          record { answer = rw (m, n, ← g, t, f); meaning = rw (t, f, m, n, ← g); coordinates = rw (m, n, ← g); jacobian = rw (m, n, ea); product = rw (m, n, eb); copy = rw (m, n, ec) }
 
       pub done-converged : (x′ : List Float) → e .converged ≡ true → x′ ≡ here′ → Solves es ls places columns chosen free x a b c x′ a′ b′ c′ s
       done-converged x′ f ex =
           let g : converged here′ (e .fit .iterations) (e .fit .tries) ≡ outcomeOf es ls places columns chosen free x = rw f at came in
-          record { answer = rw (m, n, ← g, t, f); coordinates = rw (m, n, ← g, ex); jacobian = rw (m, n, ea); product = rw (m, n, eb); copy = rw (m, n, ec) }
+          record { answer = rw (m, n, ← g, t, f); meaning = rw (t, f, m, n, ← g, ex); coordinates = rw (m, n, ← g, ex); jacobian = rw (m, n, ea); product = rw (m, n, eb); copy = rw (m, n, ec) }

@@ -5,7 +5,7 @@ use mathlib.Core.List.{List}
 use mathlib.Core.Path.{_≡_}
 use lib.Dec.{eqb}
 use lib.Ieee.{Float}
-use lib.ListN.{length}
+use lib.ListN.{length, take}
 use Rattle.floats.specs.Magnitude.{maxOf}
 use Rattle.floats.specs.Ops.{_⊗_, ten, tenth, 1e-10, 1e-15}
 use Rattle.sketch.specs.declared.Active.{Active}
@@ -63,6 +63,14 @@ pub record Shapes (es : List Active) (chosen : List ℕ) (rows nf : ℕ) (free :
   pub answer-long : length y ≡ rows
   pub trial-long : length xn ≡ length x
   pub values-long : length rn ≡ rows
+
+-- ---- the beginning
+
+-- the residuals at x are the first n places of r
+pub record Begun (es : List Active) (ls : List Line) (places chosen : List ℕ) (x r : List Float) (n : ℕ) : Type 0 where
+  pub counted : n ≡ rowCount es chosen
+  pub few : n ≤ 80
+  pub own : take n r ≡ valuesAt es ls places chosen x
 
 -- ---- a round
 

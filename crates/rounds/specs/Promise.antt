@@ -8,6 +8,8 @@ use lib.Ieee.{Float}
 use lib.ListN.{length, drop, replicate}
 use Rattle.floats.specs.Only.{only-answer}
 use Rattle.floats.specs.Ops.{zero⁺}
+use Rattle.loops.specs.Numbers.{Meaning, refused, values, notConverged}
+use Rattle.loops.specs.Numbers as number
 use Rattle.sketch.specs.declared.Active.{Active}
 use Rattle.sketch.specs.declared.Line.{Line}
 use Rattle.rounds.specs.Problem.{rowCount, jacobianAt, problemOf}
@@ -28,6 +30,21 @@ saying e i t = record { ending = e; iterations = i; tries = t }
 abbrev pub answeredBy : Outcome → Solved
 answeredBy (converged x i t) = saying Converged i t
 answeredBy (failed i t) = saying Failed i t
+
+-- what each case of the answer says in document 01's terms, with the coordinates as they are afterwards: these, the iterations and
+-- the tries of a fit that converged, or 01's number
+abbrev pub meaningOf : List Float → Solved → Meaning (List Float × ℕ × ℕ)
+meaningOf x′ s = by (s .ending)
+  where
+    by : Ending → Meaning (List Float × ℕ × ℕ)
+    by Converged = values (x′, s .iterations, s .tries)
+    by Failed = refused notConverged
+    by TooMany = refused number.tooMany
+    by TooShort = refused number.tooShort
+
+abbrev pub meant : Outcome → Meaning (List Float × ℕ × ℕ)
+meant (converged x i t) = values (x, i, t)
+meant (failed i t) = refused notConverged
 
 abbrev pub convergedBy : Ending → Bool
 convergedBy Converged = true
@@ -60,6 +77,7 @@ module _ (es : List Active) (ls : List Line) (places columns chosen free : List 
 
     pub record Solves (x′ a′ b′ c′ : List Float) (s : Solved) : Type 0 where
       pub answer : s ≡ checked (saying TooMany 0 0) (saying TooShort 0 0) (answeredBy (outcomeOf x))
+      pub meaning : meaningOf x′ s ≡ checked (refused number.tooMany) (refused number.tooShort) (meant (outcomeOf x))
       pub coordinates : x′ ≡ checked x x (coordinatesOf x (outcomeOf x))
       pub jacobian : a′ ≡ checked a a (zeroed (rowCount es chosen * length free) a)
       pub product : b′ ≡ checked b b (zeroed (rowCount es chosen * rowCount es chosen) b)

@@ -2,7 +2,7 @@
 ghost use mathlib.Core.Path.{_≡_};
 ghost use Prim.Native.Nat.{_≤_, _*_};
 ghost use lib.ListN.{length};
-ghost use Rattle.rounds.specs.Held.{Shapes, Apt, endedOf};
+ghost use Rattle.rounds.specs.Held.{Shapes, Apt, Begun, endedOf};
 ghost use Rattle.rounds.specs.Problem.{rowCount, jacobianAt, problemOf};
 ghost use Rattle.rounds.specs.Promise.{Solves, outcomeOf, zeroed, answerOf, saying};
 ghost use Rattle.rounds.specs.Solve.{solveOf};
@@ -72,6 +72,21 @@ fn opened(
     )
 }
 
+// The residuals at x go to the head of r, and how many they are is answered.
+fn first_values(
+    equations: [Active; 40],
+    lines: [Line; 40],
+    chosen: &[usize],
+    places: &[u8],
+    x: &[f64],
+    r: &mut [f64],
+) -> usize
+    requires { ⌜ (length (now chosen) ≤ 40) × (length (now r) ≡ 80) ⌝ }
+    ensures { λ n. ⌜ Begun equations lines (now (places .entry)) (now (chosen .entry)) (now (x .entry)) (now (r .exit)) n ⌝ }
+{
+    rows::residuals(equations, lines, chosen, places, x, r)
+}
+
 // The Jacobian lies in a, the product in b and its working copy in c; what they held there is +0.0 afterwards.
 fn in_areas(
     equations: [Active; 40],
@@ -96,7 +111,7 @@ fn in_areas(
     let mut y = [0.0; 80];
     let mut xn = [0.0; 80];
     let mut rn = [0.0; 80];
-    let rows = rows::residuals(equations, lines, chosen, places, x, &mut r);
+    let rows = first_values(equations, lines, chosen, places, x, &mut r);
     let nf = free.len();
     let n = x.len();
     let size = rows * nf;

@@ -1,9 +1,20 @@
+use mathlib.Core.List.{List}
+use lib.Ieee.{Float}
 use native.Mathlib.Nat.{le-refl}
 use borrow.Author.Needs.{needs}
 use Rattle.rounds.specs.Problem.{jacobianAt, problemOf}
+use Rattle.rounds.specs.Solve.{Problem}
 use Rattle.rounds.proofs.Begins.{opened-within, opened-fixed, opened-rounds}
 use Rattle.rounds.proofs.opening.opened.Statement.{statement}
 use Rattle.rounds.proofs.opening.opened.Tie as tie
+
+-- the problem that the parameters pose, and its Jacobian
+module _ (s : tie.Start) where
+  abbrev posed : Problem
+  posed = problemOf (s .args .equations) (s .args .lines) (s .args .places .now) (s .args .chosen .now) (s .args .free .now) (s .args .rows)
+
+  abbrev gradients : List Float → List Float
+  gradients = jacobianAt (s .args .equations) (s .args .lines) (s .args .places .now) (s .args .chosen .now) (s .args .columns .now) (s .args .nf)
 
 returns : tie.Need-returns
 returns c =
@@ -11,8 +22,8 @@ returns c =
     let i = f .before in
     let w = i .before in
     let s = w .before .before .before .before .before .before .before .before .before .before .before .before .before .before in
-    let P = problemOf (s .args .equations) (s .args .lines) (s .args .places .now) (s .args .chosen .now) (s .args .free .now) (s .args .rows) in
-    let J = (jacobianAt (s .args .equations) (s .args .lines) (s .args .places .now) (s .args .chosen .now) (s .args .columns .now) (s .args .nf)) in
+    let P = posed s in
+    let J = gradients s in
     opened-within P J (s .args .x .now) (s .args .r .now) (s .pre .1 .own) (s .args .nf) (s .pre .0 .free-long) (w .within .result) (w .within .ensures) (f .start .result) _ (i .if1 .taken) (f .start .ensures)
 
 returns-2 : tie.Need-returns-2
@@ -22,8 +33,8 @@ returns-2 c =
     let i = n .before in
     let w = i .before in
     let s = w .before .before .before .before .before .before .before .before .before .before .before .before .before .before in
-    let P = problemOf (s .args .equations) (s .args .lines) (s .args .places .now) (s .args .chosen .now) (s .args .free .now) (s .args .rows) in
-    let J = (jacobianAt (s .args .equations) (s .args .lines) (s .args .places .now) (s .args .chosen .now) (s .args .columns .now) (s .args .nf)) in
+    let P = posed s in
+    let J = gradients s in
     opened-fixed P J (s .args .x .now) (s .args .r .now) (s .pre .1 .own) (s .args .nf) (s .pre .0 .free-long) (w .within .result) (w .within .ensures) (f .start2 .result) _ (i .if1 .left) (n .if2 .taken) (f .start2 .ensures)
 
 all-rounds-requires : tie.Need-all-rounds-requires
@@ -41,8 +52,8 @@ returns-3 c =
     let i = n .before in
     let w = i .before in
     let s = w .before .before .before .before .before .before .before .before .before .before .before .before .before .before in
-    let P = problemOf (s .args .equations) (s .args .lines) (s .args .places .now) (s .args .chosen .now) (s .args .free .now) (s .args .rows) in
-    let J = (jacobianAt (s .args .equations) (s .args .lines) (s .args .places .now) (s .args .chosen .now) (s .args .columns .now) (s .args .nf)) in
+    let P = posed s in
+    let J = gradients s in
     opened-rounds P J (s .args .x .now) (s .args .r .now) (s .pre .1 .own) (s .args .nf) (s .pre .0 .free-long) (w .within .result) (w .within .ensures) (f .start3 .result) (m .norm2 .result) (k .all-rounds .last .1 .1 .1 .1 .1 .1 .0) (k .all-rounds .result) (i .if1 .left) (n .if2 .left) (m .norm2 .ensures)
     (f .start3 .ensures) (k .all-rounds .ensures)
 

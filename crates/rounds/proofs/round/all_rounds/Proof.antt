@@ -1,3 +1,5 @@
+use mathlib.Core.List.{List}
+use lib.Ieee.{Float}
 use Prim.Native.Nat.{_-_, _*_, _≤_}
 use mathlib.Core.Path.{_≡_, refl, _∙_}
 use native.Mathlib.Omega.{arith}
@@ -5,7 +7,7 @@ use lib.Dec.{eqb}
 use lib.ListN.{length}
 use borrow.Author.Needs.{needs}
 use Rattle.rounds.specs.Problem.{valuesAt, jacobianAt, problemOf, stateOf}
-use Rattle.rounds.specs.Solve.{roundsOf}
+use Rattle.rounds.specs.Solve.{Problem, roundsOf}
 use Rattle.rounds.proofs.Around.{round-counted, round-tried, round-owned, step-counts, rounds-stop, rounds-next, rounds-done}
 use Rattle.rounds.proofs.Turn.{reshaped}
 use Rattle.rounds.proofs.round.all_rounds.Statement.{statement}
@@ -31,6 +33,14 @@ abbrev μ-loop : tie.MeasureT-loop
 μ-loop equations lines chosen places columns free x₀ r₀ j₀ a₀ w₀ y₀ xn₀ rn₀ rows nf f₀ counter₀ x r j a w y xn rn f counter =
     200 - counter
 
+-- the problem that the parameters pose, and its Jacobian
+module _ (s : tie.Start Inv-loop μ-loop) where
+  abbrev posed : Problem
+  posed = problemOf (s .args .equations) (s .args .lines) (s .args .places .now) (s .args .chosen .now) (s .args .free .now) (s .args .rows)
+
+  abbrev gradients : List Float → List Float
+  gradients = jacobianAt (s .args .equations) (s .args .lines) (s .args .places .now) (s .args .chosen .now) (s .args .columns .now) (s .args .nf)
+
 loop-holds : tie.Need-loop-holds Inv-loop μ-loop
 loop-holds c =
     let s = c .before .before .before .before .before .before .before .before .before .before .before .before in
@@ -50,53 +60,61 @@ one-round-requires c κs =
       omega (arith, l .loop .inv .2, t .loop-test .taken),
     )
 
+-- each slice is as long after a round as it came
+module _ (o : tie.After-one-round Inv-loop μ-loop) where
+  abbrev turn : tie.At-loop Inv-loop μ-loop
+  turn = o .before .before .before .before .before .before .before .before .before .before
+
+  abbrev began : tie.Start Inv-loop μ-loop
+  began = turn .before .before .before .before .before .before .before .before .before .before .before .before .before
+
+  x-kept : length (o .one-round .last .1 .1 .1 .1 .1 .1 .0) ≡ length (began .args .x .now)
+  x-kept = o .one-round .kept .1 .1 .1 .1 .1 .1 .0 ∙ turn .loop .inv .5
+
+  r-kept : length (o .one-round .last .1 .1 .1 .1 .1 .1 .1 .0) ≡ length (began .args .r .now)
+  r-kept = o .one-round .kept .1 .1 .1 .1 .1 .1 .1 .0 ∙ turn .loop .inv .6
+
+  j-kept : length (o .one-round .last .1 .1 .1 .1 .1 .1 .1 .1 .0) ≡ length (began .args .j .now)
+  j-kept = o .one-round .kept .1 .1 .1 .1 .1 .1 .1 .1 .0 ∙ turn .loop .inv .7
+
+  a-kept : length (o .one-round .last .1 .1 .1 .1 .1 .1 .1 .1 .1 .0) ≡ length (began .args .a .now)
+  a-kept = o .one-round .kept .1 .1 .1 .1 .1 .1 .1 .1 .1 .0 ∙ turn .loop .inv .8
+
+  w-kept : length (o .one-round .last .1 .1 .1 .1 .1 .1 .1 .1 .1 .1 .0) ≡ length (began .args .w .now)
+  w-kept = o .one-round .kept .1 .1 .1 .1 .1 .1 .1 .1 .1 .1 .0 ∙ turn .loop .inv .9
+
+  y-kept : length (o .one-round .last .1 .1 .1 .1 .1 .1 .1 .1 .1 .1 .1 .0) ≡ length (began .args .y .now)
+  y-kept = o .one-round .kept .1 .1 .1 .1 .1 .1 .1 .1 .1 .1 .1 .0 ∙ turn .loop .inv .10
+
+  xn-kept : length (o .one-round .last .1 .1 .1 .1 .1 .1 .1 .1 .1 .1 .1 .1 .0) ≡ length (began .args .xn .now)
+  xn-kept = o .one-round .kept .1 .1 .1 .1 .1 .1 .1 .1 .1 .1 .1 .1 .0 ∙ turn .loop .inv .11
+
+  rn-kept : length (o .one-round .last .1 .1 .1 .1 .1 .1 .1 .1 .1 .1 .1 .1 .1 .0) ≡ length (began .args .rn .now)
+  rn-kept = o .one-round .kept .1 .1 .1 .1 .1 .1 .1 .1 .1 .1 .1 .1 .1 .0 ∙ turn .loop .inv .12
+
 same-length : tie.Need-same-length Inv-loop μ-loop
-same-length c =
-    let o = c .before .before .before .before .before .before .before .before .before .before .before .before .before .before .before .before .before .before .before .before .before in
-    let l = o .before .before .before .before .before .before .before .before .before .before in
-    o .one-round .kept .1 .1 .1 .1 .1 .1 .0 ∙ l .loop .inv .5
+same-length c = x-kept (c .before .before .before .before .before .before .before .before .before .before .before .before .before .before .before .before .before .before .before .before .before)
 
 same-length-2 : tie.Need-same-length-2 Inv-loop μ-loop
-same-length-2 c =
-    let o = c .before .before .before .before .before .before .before .before .before .before .before .before .before .before .before .before .before .before .before .before .before in
-    let l = o .before .before .before .before .before .before .before .before .before .before in
-    o .one-round .kept .1 .1 .1 .1 .1 .1 .1 .0 ∙ l .loop .inv .6
+same-length-2 c = r-kept (c .before .before .before .before .before .before .before .before .before .before .before .before .before .before .before .before .before .before .before .before .before)
 
 same-length-3 : tie.Need-same-length-3 Inv-loop μ-loop
-same-length-3 c =
-    let o = c .before .before .before .before .before .before .before .before .before .before .before .before .before .before .before .before .before .before .before .before .before in
-    let l = o .before .before .before .before .before .before .before .before .before .before in
-    o .one-round .kept .1 .1 .1 .1 .1 .1 .1 .1 .0 ∙ l .loop .inv .7
+same-length-3 c = j-kept (c .before .before .before .before .before .before .before .before .before .before .before .before .before .before .before .before .before .before .before .before .before)
 
 same-length-4 : tie.Need-same-length-4 Inv-loop μ-loop
-same-length-4 c =
-    let o = c .before .before .before .before .before .before .before .before .before .before .before .before .before .before .before .before .before .before .before .before .before in
-    let l = o .before .before .before .before .before .before .before .before .before .before in
-    o .one-round .kept .1 .1 .1 .1 .1 .1 .1 .1 .1 .0 ∙ l .loop .inv .8
+same-length-4 c = a-kept (c .before .before .before .before .before .before .before .before .before .before .before .before .before .before .before .before .before .before .before .before .before)
 
 same-length-5 : tie.Need-same-length-5 Inv-loop μ-loop
-same-length-5 c =
-    let o = c .before .before .before .before .before .before .before .before .before .before .before .before .before .before .before .before .before .before .before .before .before in
-    let l = o .before .before .before .before .before .before .before .before .before .before in
-    o .one-round .kept .1 .1 .1 .1 .1 .1 .1 .1 .1 .1 .0 ∙ l .loop .inv .9
+same-length-5 c = w-kept (c .before .before .before .before .before .before .before .before .before .before .before .before .before .before .before .before .before .before .before .before .before)
 
 same-length-6 : tie.Need-same-length-6 Inv-loop μ-loop
-same-length-6 c =
-    let o = c .before .before .before .before .before .before .before .before .before .before .before .before .before .before .before .before .before .before .before .before .before in
-    let l = o .before .before .before .before .before .before .before .before .before .before in
-    o .one-round .kept .1 .1 .1 .1 .1 .1 .1 .1 .1 .1 .1 .0 ∙ l .loop .inv .10
+same-length-6 c = y-kept (c .before .before .before .before .before .before .before .before .before .before .before .before .before .before .before .before .before .before .before .before .before)
 
 same-length-7 : tie.Need-same-length-7 Inv-loop μ-loop
-same-length-7 c =
-    let o = c .before .before .before .before .before .before .before .before .before .before .before .before .before .before .before .before .before .before .before .before .before in
-    let l = o .before .before .before .before .before .before .before .before .before .before in
-    o .one-round .kept .1 .1 .1 .1 .1 .1 .1 .1 .1 .1 .1 .1 .0 ∙ l .loop .inv .11
+same-length-7 c = xn-kept (c .before .before .before .before .before .before .before .before .before .before .before .before .before .before .before .before .before .before .before .before .before)
 
 same-length-8 : tie.Need-same-length-8 Inv-loop μ-loop
-same-length-8 c =
-    let o = c .before .before .before .before .before .before .before .before .before .before .before .before .before .before .before .before .before .before .before .before .before in
-    let l = o .before .before .before .before .before .before .before .before .before .before in
-    o .one-round .kept .1 .1 .1 .1 .1 .1 .1 .1 .1 .1 .1 .1 .1 .0 ∙ l .loop .inv .12
+same-length-8 c = rn-kept (c .before .before .before .before .before .before .before .before .before .before .before .before .before .before .before .before .before .before .before .before .before)
 
 returns : tie.Need-returns Inv-loop μ-loop
 returns c =
@@ -107,8 +125,8 @@ returns c =
     let t = o .before .before .before .before .before .before .before .before .before in
     let l = t .before in
     let s = l .before .before .before .before .before .before .before .before .before .before .before .before .before in
-    let P = problemOf (s .args .equations) (s .args .lines) (s .args .places .now) (s .args .chosen .now) (s .args .free .now) (s .args .rows) in
-    let J = (jacobianAt (s .args .equations) (s .args .lines) (s .args .places .now) (s .args .chosen .now) (s .args .columns .now) (s .args .nf)) in
+    let P = posed s in
+    let J = gradients s in
     rounds-stop P J (l .loop .counter) (stateOf (l .loop .x) (l .loop .r) (l .loop .f)) (o .one-round .last .1 .1 .1 .1 .1 .1 .0) (o .one-round .last .1 .1 .1 .1 .1 .1 .1 .0) (o .one-round .result)
     (b .within .result) (g .after-round .result) _ (t .loop-test .taken) (o .one-round .ensures) (b .within .ensures) (g .after-round .ensures) (l .loop .inv .4) (i .if1 .taken)
 
@@ -131,8 +149,8 @@ loop-again c =
     let t = o .before .before .before .before .before .before .before .before .before in
     let l = t .before in
     let s = l .before .before .before .before .before .before .before .before .before .before .before .before .before in
-    let P = problemOf (s .args .equations) (s .args .lines) (s .args .places .now) (s .args .chosen .now) (s .args .free .now) (s .args .rows) in
-    let J = (jacobianAt (s .args .equations) (s .args .lines) (s .args .places .now) (s .args .chosen .now) (s .args .columns .now) (s .args .nf)) in
+    let P = posed s in
+    let J = gradients s in
     let u = stateOf (l .loop .x) (l .loop .r) (l .loop .f) in
     let p = round-counted P J u (o .one-round .last .1 .1 .1 .1 .1 .1 .0) (o .one-round .last .1 .1 .1 .1 .1 .1 .1 .0) (o .one-round .result) (o .one-round .ensures) in
     let q = round-tried P J u (o .one-round .last .1 .1 .1 .1 .1 .1 .0) (o .one-round .last .1 .1 .1 .1 .1 .1 .1 .0) (o .one-round .result) (o .one-round .ensures) in
@@ -143,14 +161,14 @@ loop-again c =
       round-owned P J u (o .one-round .last .1 .1 .1 .1 .1 .1 .0) (o .one-round .last .1 .1 .1 .1 .1 .1 .1 .0) (o .one-round .result) (o .one-round .ensures),
       rounds-next P J (l .loop .counter) (stateOf (l .loop .x) (l .loop .r) (l .loop .f)) (o .one-round .last .1 .1 .1 .1 .1 .1 .0) (o .one-round .last .1 .1 .1 .1 .1 .1 .1 .0) (o .one-round .result)
           (b .within .result) (g .after-round .result) _ (t .loop-test .taken) (o .one-round .ensures) (b .within .ensures) (g .after-round .ensures) (l .loop .inv .4) (i .if1 .left),
-      o .one-round .kept .1 .1 .1 .1 .1 .1 .0 ∙ l .loop .inv .5,
-      o .one-round .kept .1 .1 .1 .1 .1 .1 .1 .0 ∙ l .loop .inv .6,
-      o .one-round .kept .1 .1 .1 .1 .1 .1 .1 .1 .0 ∙ l .loop .inv .7,
-      o .one-round .kept .1 .1 .1 .1 .1 .1 .1 .1 .1 .0 ∙ l .loop .inv .8,
-      o .one-round .kept .1 .1 .1 .1 .1 .1 .1 .1 .1 .1 .0 ∙ l .loop .inv .9,
-      o .one-round .kept .1 .1 .1 .1 .1 .1 .1 .1 .1 .1 .1 .0 ∙ l .loop .inv .10,
-      o .one-round .kept .1 .1 .1 .1 .1 .1 .1 .1 .1 .1 .1 .1 .0 ∙ l .loop .inv .11,
-      o .one-round .kept .1 .1 .1 .1 .1 .1 .1 .1 .1 .1 .1 .1 .1 .0 ∙ l .loop .inv .12,
+      x-kept o,
+      r-kept o,
+      j-kept o,
+      a-kept o,
+      w-kept o,
+      y-kept o,
+      xn-kept o,
+      rn-kept o,
     )
 
 returns-2 : tie.Need-returns-2 Inv-loop μ-loop
@@ -159,8 +177,8 @@ returns-2 c =
     let t = b .before .before in
     let l = t .before in
     let s = l .before .before .before .before .before .before .before .before .before .before .before .before .before in
-    let P = problemOf (s .args .equations) (s .args .lines) (s .args .places .now) (s .args .chosen .now) (s .args .free .now) (s .args .rows) in
-    let J = (jacobianAt (s .args .equations) (s .args .lines) (s .args .places .now) (s .args .chosen .now) (s .args .columns .now) (s .args .nf)) in
+    let P = posed s in
+    let J = gradients s in
     rounds-done P J (l .loop .counter) (l .loop .x) (l .loop .r) (l .loop .f) (b .within2 .result) _ (t .loop-test .left) (b .within2 .ensures) (l .loop .inv .4)
 
 pub all-rounds-spec : {M : Type 1} → statement M

@@ -4,7 +4,7 @@ use native.Mathlib.Omega.{arith}
 use lib.ListN.{length}
 use borrow.Author.Needs.{needs}
 use Rattle.rounds.specs.Problem.{problemOf, stateOf}
-use Rattle.rounds.specs.Solve.{triesOf}
+use Rattle.rounds.specs.Solve.{Problem, triesOf}
 use Rattle.rounds.proofs.Turn.{shaped, one-more, tries-next, tries-stop, tries-done}
 use Rattle.rounds.proofs.tries.all_tries.Statement.{statement}
 use Rattle.rounds.proofs.tries.all_tries.Tie as tie
@@ -25,6 +25,11 @@ Inv-loop equations lines chosen places free j a x₀ r₀ w₀ y₀ xn₀ rn₀ 
 abbrev μ-loop : tie.MeasureT-loop
 μ-loop equations lines chosen places free j a x₀ r₀ w₀ y₀ xn₀ rn₀ rows nf m f₀ counter₀ x r w y xn rn f counter =
     12 - counter
+
+-- the problem that the parameters pose
+module _ (s : tie.Start Inv-loop μ-loop) where
+  abbrev posed : Problem
+  posed = problemOf (s .args .equations) (s .args .lines) (s .args .places .now) (s .args .chosen .now) (s .args .free .now) (s .args .rows)
 
 loop-holds : tie.Need-loop-holds Inv-loop μ-loop
 loop-holds c = (search needs, search needs, refl, refl, refl, refl, refl, refl, refl)
@@ -47,7 +52,7 @@ returns c =
     let t = o .before .before .before .before .before .before .before in
     let l = t .before in
     let s = l .before .before .before .before .before .before .before .before .before .before .before .before in
-    let P = problemOf (s .args .equations) (s .args .lines) (s .args .places .now) (s .args .chosen .now) (s .args .free .now) (s .args .rows) in
+    let P = posed s in
     tries-stop P (s .args .j .now) (s .args .a .now) (s .args .m) (l .loop .counter) (stateOf (l .loop .x) (l .loop .r) (l .loop .f))
     (o .one-try .last .1 .1 .1 .1 .1 .1 .1 .0) (o .one-try .last .1 .1 .1 .1 .1 .1 .1 .1 .0) (o .one-try .result) _ (t .loop-test .taken) (o .one-try .ensures) (l .loop .inv .2) (i .if1 .taken)
 
@@ -58,7 +63,7 @@ loop-again c =
     let t = o .before .before .before .before .before .before .before in
     let l = t .before in
     let s = l .before .before .before .before .before .before .before .before .before .before .before .before in
-    let P = problemOf (s .args .equations) (s .args .lines) (s .args .places .now) (s .args .chosen .now) (s .args .free .now) (s .args .rows) in
+    let P = posed s in
     let q = one-more P (s .args .j .now) (s .args .a .now) (s .args .m) (stateOf (l .loop .x) (l .loop .r) (l .loop .f)) (o .one-try .last .1 .1 .1 .1 .1 .1 .1 .0) (o .one-try .last .1 .1 .1 .1 .1 .1 .1 .1 .0)
     (o .one-try .result) (o .one-try .ensures) in (
       search needs,
@@ -78,7 +83,7 @@ returns-2 c =
     let t = c in
     let l = t .before in
     let s = l .before .before .before .before .before .before .before .before .before .before .before .before in
-    let P = problemOf (s .args .equations) (s .args .lines) (s .args .places .now) (s .args .chosen .now) (s .args .free .now) (s .args .rows) in
+    let P = posed s in
     tries-done P (s .args .j .now) (s .args .a .now) (s .args .m) (l .loop .counter) (stateOf (l .loop .x) (l .loop .r) (l .loop .f)) _ (t .loop-test .left) (l .loop .inv .2)
 
 pub all-tries-spec : {M : Type 1} → statement M

@@ -2,9 +2,15 @@ use borrow.Author.Needs.{needs}
 use mathlib.Core.Path.{sym, _∙_}
 use Rattle.rounds.specs.Held.{trialMade}
 use Rattle.rounds.specs.Problem.{problemOf}
+use Rattle.rounds.specs.Solve.{Problem}
 use Rattle.rounds.proofs.Turn.{no-try, a-try}
 use Rattle.rounds.proofs.tries.one_try.Statement.{statement}
 use Rattle.rounds.proofs.tries.one_try.Tie as tie
+
+-- the problem that the parameters pose
+module _ (s : tie.Start) where
+  abbrev posed : Problem
+  posed = problemOf (s .args .equations) (s .args .lines) (s .args .places .now) (s .args .chosen .now) (s .args .free .now) (s .args .rows)
 
 returns : tie.Need-returns
 returns c =
@@ -12,7 +18,7 @@ returns c =
     let i = h .before in
     let t = i .before .before .before .before .before .before .before .before .before in
     let s = t .before .before .before .before .before .before .before .before .before .before .before .before .before .before .before .before .before .before in
-    let P = problemOf (s .args .equations) (s .args .lines) (s .args .places .now) (s .args .chosen .now) (s .args .free .now) (s .args .rows) in
+    let P = posed s in
     no-try P (s .args .j .now) (s .args .a .now) (s .args .m) (s .args .x .now) (s .args .r .now) (s .args .fit) (t .trial .result)
     (trialMade (t .trial .last .1 .1 .1 .1 .1 .1 .1 .1 .1 .1 .1 .0) (t .trial .last .1 .1 .1 .1 .1 .1 .1 .1 .1 .1 .1 .1 .0)) (h .harder .result) (t .trial .ensures)
     (i .if1 .taken) (h .harder .ensures)
@@ -32,7 +38,7 @@ returns-2 c =
     let i = k .before .before .before .before .before in
     let t = i .before .before .before .before .before .before .before .before .before in
     let s = t .before .before .before .before .before .before .before .before .before .before .before .before .before .before .before .before .before .before in
-    let P = problemOf (s .args .equations) (s .args .lines) (s .args .places .now) (s .args .chosen .now) (s .args .free .now) (s .args .rows) in
+    let P = posed s in
     a-try P (s .args .j .now) (s .args .a .now) (s .args .m) (s .args .x .now) (s .args .r .now) (s .args .fit) (t .trial .result)
     (trialMade (t .trial .last .1 .1 .1 .1 .1 .1 .1 .1 .1 .1 .1 .0) (t .trial .last .1 .1 .1 .1 .1 .1 .1 .1 .1 .1 .1 .1 .0)) (k .judge .last .0) (k .judge .last .1 .0)
     (k .judge .result) (t .trial .ensures) (i .if1 .left) (k .judge .ensures)
