@@ -1,26 +1,30 @@
--- `fitted-means-fitted` and `suspects-marked` (specs/Sentences.antt). Assumes nothing.
+-- `fitted-means-fitted`, `suspects-marked` and `areas-after` (specs/Sentences.antt). Assumes nothing.
 use Prim.Native.Nat.{ℕ}
-use mathlib.Core.Bool.{Bool, true, false}
+use mathlib.Core.Bool.{Bool, true, false, cond}
 use mathlib.Core.List.{List}
+use mathlib.Core.Logic.{_⊎_, inl, inr, _≢_}
 use mathlib.Core.Path.{_≡_, refl}
 use native.Mathlib.Omega.{arith}
 use lib.Ieee.{Float}
+use lib.ListN.{length}
 use Rattle.fit.proofs.MeansFitted.{fitted-holds}
 use Rattle.fit.proofs.SuspectsTheorem.{suspects-exactly}
 use Rattle.fit.specs.Fits.{converges}
 use Rattle.fit.specs.Groups.{outcomeAt, suspectsAt}
 use Rattle.groups.proofs.Theorem.{groups-are-chains}
 use Rattle.groups.specs.Listed.{groupingOf}
+use Rattle.rounds.specs.Promise.{zeroed}
 use Rattle.rounds.specs.Solve.{Outcome, converged, failed}
 use Rattle.sketch.proofs.Given as checked
-use Rattle.sketch.specs.Check.{checkOf}
+use Rattle.sketch.specs.Check.{checkOf, ordered, overBound, outOfBounds, refersToNothing, overRows}
 use Rattle.sketch.specs.declared.Build.{Build}
 use Rattle.sketch.specs.declared.Checked.{Checked}
-use Rattle.sketch.specs.declared.Checked.the-variants.{Passes}
+use Rattle.sketch.specs.declared.Checked.the-variants.{Passes, Ends}
+use Rattle.sketch.specs.declared.Ending.{Ending}
 use Rattle.job.specs.Given.{Sound}
 use Rattle.job.specs.Groups.{Result, fits, fails, fitOf}
-use Rattle.job.specs.Promise.{verdictOf, answerAfter, unfit}
-use Rattle.job.specs.Sentences.{Failing, FittedMeansFitted, SuspectsMarked}
+use Rattle.job.specs.Promise.{noRoom, verdictOf, answerAfter, areaAfter, unfit, firstRow}
+use Rattle.job.specs.Sentences.{Failing, FittedMeansFitted, SuspectsMarked, AreasAfter}
 use Rattle.job.proofs.Theorem.{given-exactly, lowest-fails, fails-some}
 
 outcome-of : (o : Outcome) → converges o ≡ true → (x : List Float) × (i : ℕ) × (t : ℕ) × (o ≡ converged x i t)
@@ -39,6 +43,38 @@ module _ (b : Build) where
 
   marks-are : (v : Checked) (j i t : ℕ) → v ≡ Passes → fitOf b ≡ fails j i t → answerAfter b v .suspects ≡ suspectsAt b (groupingOf b) j
   marks-are v j i t e f = rw (e, f)
+
+  -- by the rows in 01's order
+  left : (a : List Float) (o n u m r f : Bool) → (firstRow o n u m r f ≡ 0) ⊎ (firstRow o n u m r f ≡ 7)
+      → areaAfter a (cond o (Ends Ending.TooMany) (cond n (Ends Ending.TooShort) (ordered o u m r))) ≡ zeroed 8192 a
+  left a true n u m r f (inl h) = cc
+  left a true n u m r f (inr h) = cc
+  left a false true u m r f (inl h) = cc
+  left a false true u m r f (inr h) = cc
+  left a false false true m r f (inl h) = cc
+  left a false false true m r f (inr h) = cc
+  left a false false false true r f (inl h) = cc
+  left a false false false true r f (inr h) = cc
+  left a false false false false true f (inl h) = cc
+  left a false false false false true f (inr h) = cc
+  left a false false false false false f h = refl
+
+  kept : (a : List Float) (o n u m r f : Bool) → firstRow o n u m r f ≢ 0 → firstRow o n u m r f ≢ 7
+      → areaAfter a (cond o (Ends Ending.TooMany) (cond n (Ends Ending.TooShort) (ordered o u m r))) ≡ a
+  kept a true n u m r f h k = refl
+  kept a false true u m r f h k = refl
+  kept a false false true m r f h k = refl
+  kept a false false false true r f h k = refl
+  kept a false false false false true f h k = refl
+  kept a false false false false false true h k = absurd (k refl)
+  kept a false false false false false false h k = absurd (h refl)
+
+  pub areas-after : AreasAfter b
+  unfolding verdictOf checkOf
+  areas-after out p q r area =
+      let n = noRoom b (length out) (length p) (length q) (length r) in
+      let f = unfit (fitOf b) in
+      (left area (overBound b) n (outOfBounds b) (refersToNothing b) (overRows b) f, kept area (overBound b) n (outOfBounds b) (refersToNothing b) (overRows b) f)
 
   module _ (out p q r : ℕ) where
     passes : Sound b out p q r → checkOf b ≡ Passes
