@@ -5,18 +5,21 @@ use mathlib.Core.List.{List, append-nil}
 use mathlib.Core.Path.{_≡_, refl, sym, ap, _∙_}
 use native.Mathlib.Nat.{le-refl}
 use native.Mathlib.Omega.{arith}
-use borrow.Author.Tests.{le-leb}
+use borrow.Author.Tests.{le-leb, le-ltb}
 use lib.Dec.{eqb}
 use lib.Ieee.{Float}
 use lib.ListN.{length, drop-of-length-le}
 use Rattle.loops.specs.Turns.{Try, go, stop}
-use Rattle.normal.specs.Normal.{productOf, productIn, diagMaxOf, diagMaxIn}
+use Rattle.normal.specs.Normal.{productOf, diagMaxOf}
+use Rattle.normal.specs.Promise.{Multiplies, Tops}
+use Rattle.normal.specs.declared.Largest.{Largest}
+use Rattle.normal.specs.declared.Made.{Made}
 use Rattle.rows.specs.Column.{laid, laidIn}
 use Rattle.slopes.specs.Dense.{jacobianOf}
 use Rattle.sketch.specs.declared.Active.{Active}
 use Rattle.sketch.specs.declared.Line.{Line}
 use Rattle.rounds.specs.Column.{table-is}
-use Rattle.rounds.specs.Held.{begunFit, polishedFit, stepBy, stepOf, endedOf}
+use Rattle.rounds.specs.Held.{begunFit, largestIn, polishedFit, stepBy, stepOf, endedOf}
 use Rattle.rounds.specs.Holds.{round-own}
 use Rattle.rounds.specs.Problem.{rowCount, jacobianAt, stateOf, triedOf}
 use Rattle.rounds.specs.Solve.{Problem, State, Trial, Tried, Outcome, converged, within, judged, trialOf, tryOf, triesOf, orNext, better, taken, harder, begun, roundOf, roundsOf, ended, decided}
@@ -36,17 +39,18 @@ jacobian-found es ls places columns chosen nf n rows x j j′ few narrow c long 
     let full : length j ≤ rowCount es chosen * nf = rw l (le-refl _) in
     ap laidIn (e ∙ table-is es ls places columns chosen nf x j few narrow room) ∙ rw (drop-of-length-le j full, append-nil)
 
-pub product-found : (rows nf : ℕ) (j a a′ : List Float) → length j ≡ rows * nf → length a ≡ rows * rows → a′ ≡ productIn rows nf j a → a′ ≡ productOf rows nf j
-unfolding productIn
-product-found rows nf j a a′ l k e =
+pub product-found : (rows nf : ℕ) (j a a′ : List Float) (d : Made) → rows ≤ 80 → nf ≤ 80 → length j ≡ rows * nf → length a ≡ rows * rows → Multiplies rows nf j a a′ d
+    → a′ ≡ productOf rows nf j
+product-found rows nf j a a′ d few narrow l k e =
     let p : rows * nf ≤ length j = rw l (le-refl _) in
     let q : rows * rows ≤ length a = rw k (le-refl _) in
     let full : length a ≤ rows * rows = rw k (le-refl _) in
-    e ∙ rw (le-leb (rows * nf) (length j) p, le-leb (rows * rows) (length a) q, drop-of-length-le a full, append-nil)
+    e .slice ∙ rw (le-ltb 80 rows few, le-ltb 80 nf narrow, le-leb (rows * nf) (length j) p, le-leb (rows * rows) (length a) q, drop-of-length-le a full, append-nil)
 
-pub diagonal-found : (rows : ℕ) (a : List Float) (m : Float) → length a ≡ rows * rows → m ≡ diagMaxIn rows a → m ≡ diagMaxOf rows a
-unfolding diagMaxIn
-diagonal-found rows a m k e = let q : rows * rows ≤ length a = rw k (le-refl _) in e ∙ rw (le-leb (rows * rows) (length a) q)
+pub diagonal-found : (rows : ℕ) (a : List Float) (t : Largest) (m : Float) → rows ≤ 80 → length a ≡ rows * rows → Tops rows a t → m ≡ largestIn t → m ≡ diagMaxOf rows a
+diagonal-found rows a t m few k e h =
+    let q : rows * rows ≤ length a = rw k (le-refl _) in
+    h ∙ ap largestIn (e .answer) ∙ rw (le-ltb 80 rows few, le-leb (rows * rows) (length a) q)
 
 module _ (P : Problem) (J : List Float → List Float) where
   pub round-is : (nf : ℕ) (x r x′ r′ j a : List Float) (m : Float) (f g : Fit) (t : Attempted) → length (P .free) ≡ nf → r ≡ P .values x → j ≡ J x

@@ -11,7 +11,9 @@ use lib.ListN.{length, take, drop, length-append, length-drop, drop-of-length-le
 use lib.Seq.{take-all, take-at}
 use Rattle.floats.specs.Lists.{copiedOf}
 use Rattle.loops.specs.Turns.{Try, go, stop, tried}
-use Rattle.normal.specs.Normal.{dampedOf, dampedIn, movedOf, movedIn}
+use Rattle.normal.specs.Normal.{dampedOf, movedOf}
+use Rattle.normal.specs.Promise.{Damps, Moves}
+use Rattle.normal.specs.declared.Made.{Made}
 use Rattle.solver.specs.Promise.{Solves, checked, found, orZeros, solved}
 use Rattle.solver.specs.Steps.{solutionOf}
 use Rattle.solver.specs.declared.Elimination.{Elimination}
@@ -36,11 +38,10 @@ module _ {A : Type 0} (n : ℕ) (a b : List Float) (x y z : A) where
   unfolding checked
   carried h s t = rw (le-ltb 80 n h, le-leb (n * n) (length a) s, le-leb n (length b) t)
 
-module _ (n : ℕ) (mu m : Float) (a w w₁ : List Float) (h : n * n ≤ length a) (k : n * n ≤ length w) (e : w₁ ≡ dampedIn n mu m a w)
+module _ (n : ℕ) (mu m : Float) (a w w₁ : List Float) (d : Made) (few : n ≤ 80) (h : n * n ≤ length a) (k : n * n ≤ length w) (e : Damps n mu m a w w₁ d)
     (kept : length w₁ ≡ length w) where
   made : w₁ ≡ dampedOf n mu m (take (n * n) a) ++ drop (n * n) w
-  unfolding dampedIn
-  made = rw (e, le-leb (n * n) (length a) h, le-leb (n * n) (length w) k)
+  made = e .slice ∙ rw (le-ltb 80 n few, le-leb (n * n) (length a) h, le-leb (n * n) (length w) k)
 
   head-long : length (dampedOf n mu m (take (n * n) a)) ≡ n * n
   head-long =
@@ -52,10 +53,10 @@ module _ (n : ℕ) (mu m : Float) (a w w₁ : List Float) (h : n * n ≤ length 
   damped-head : take (n * n) w₁ ≡ dampedOf n mu m (take (n * n) a)
   damped-head = rw made (take-at (dampedOf n mu m (take (n * n) a)) (drop (n * n) w) (n * n) head-long)
 
-pub eliminated-is : (n : ℕ) (mu m : Float) (a r w y w₁ y₁ w₂ y₂ : List Float) (e : Elimination) (ok : Bool) → n ≤ 80 → n * n ≤ length a → length r ≡ n
-    → n * n ≤ length w → length y ≡ n → w₁ ≡ dampedIn n mu m a w → length w₁ ≡ length w → y₁ ≡ copiedOf r y → Solves n w₁ y₁ w₂ y₂ e → ok ≡ isSolved e
+pub eliminated-is : (n : ℕ) (mu m : Float) (a r w y w₁ y₁ w₂ y₂ : List Float) (d : Made) (e : Elimination) (ok : Bool) → n ≤ 80 → n * n ≤ length a → length r ≡ n
+    → n * n ≤ length w → length y ≡ n → Damps n mu m a w w₁ d → length w₁ ≡ length w → y₁ ≡ copiedOf r y → Solves n w₁ y₁ w₂ y₂ e → ok ≡ isSolved e
     → tried ok y₂ ≡ solutionOf n (dampedOf n mu m (take (n * n) a)) r
-eliminated-is n mu m a r w y w₁ y₁ w₂ y₂ e ok few ha hr hw hy d kept c s o =
+eliminated-is n mu m a r w y w₁ y₁ w₂ y₂ d e ok few ha hr hw hy h kept c s o =
     let same : y₁ ≡ r = copied-whole r y y₁ (hy ∙ sym hr) c in
     let long : length y₁ ≡ n = ap length same ∙ hr in
     let fits : n * n ≤ length w₁ = rw kept hw in
@@ -64,7 +65,7 @@ eliminated-is n mu m a r w y w₁ y₁ w₂ y₂ e ok few ha hr hw hy d kept c s
     let S : Try (List Float) = solved n w₁ y₁ in
     let q : e ≡ found S = s .answer ∙ carried n w₁ y₁ TooMany TooShort (found S) few fits room in
     let t : y₂ ≡ orZeros n S ++ drop n y₁ = s .right ∙ carried n w₁ y₁ y₁ y₁ (orZeros n S ++ drop n y₁) few fits room in
-    let head : take (n * n) w₁ ≡ dampedOf n mu m (take (n * n) a) = damped-head n mu m a w w₁ ha hw d kept in
+    let head : take (n * n) w₁ ≡ dampedOf n mu m (take (n * n) a) = damped-head n mu m a w w₁ d few ha hw h kept in
     ap (λ b. tried b y₂) o
     ∙ answered n S e y₂ (drop n y₁) q t (drop-of-length-le y₁ full)
     ∙ ap (λ v. solutionOf n (take (n * n) w₁) v) (take-all n y₁ full ∙ same)
@@ -82,16 +83,16 @@ module _ (P : Problem) (nf : ℕ) (j a x r y : List Float) (m mu : Float) (ok : 
   unfolding trialOf
   no-trial t h = let s : tried false y ≡ solutionOf (P .rows) (dampedOf (P .rows) mu m a) r = rw (not-true ok h) at at-product in rw (← s)
 
-  pub trial-made : (free : List ℕ) (xn xn₁ xn₂ rn : List Float) → not ok ≡ false → free ≡ P .free → length (P .free) ≡ nf → length j ≡ P .rows * nf → length y ≡ P .rows
-      → length xn ≡ length x → xn₁ ≡ copiedOf x xn → xn₂ ≡ movedIn (P .rows) nf j y free xn₁ → rn ≡ P .values xn₂
+  pub trial-made : (free : List ℕ) (xn xn₁ xn₂ rn : List Float) (o : Made) → P .rows ≤ 80 → nf ≤ 80 → not ok ≡ false → free ≡ P .free → length (P .free) ≡ nf → length j ≡ P .rows * nf → length y ≡ P .rows
+      → length xn ≡ length x → xn₁ ≡ copiedOf x xn → Moves (P .rows) nf j y free xn₁ xn₂ o → rn ≡ P .values xn₂
       → tried true (trialMade xn₂ rn) ≡ trialOf P j a m mu x r
-  unfolding trialOf movedIn
-  trial-made free xn xn₁ xn₂ rn h f n l k q c d v =
+  unfolding trialOf
+  trial-made free xn xn₁ xn₂ rn o few narrow h f n l k q c d v =
       let s : tried true y ≡ solutionOf (P .rows) (dampedOf (P .rows) mu m a) r = rw (not-false ok h) at at-product in
       let same : xn₁ ≡ x = copied-whole x xn xn₁ q c in
       let lj : P .rows * nf ≤ length j = omega arith in
       let ly : P .rows ≤ length y = omega arith in
       let lf : nf ≤ length free = rw f (omega arith) in
       let moves : xn₂ ≡ movedOf (P .rows) nf j y free xn₁ =
-      rw (le-leb (P .rows * nf) (length j) lj, le-leb (P .rows) (length y) ly, le-leb nf (length free) lf) at d in
+      d .slice ∙ rw (le-ltb 80 (P .rows) few, le-ltb 80 nf narrow, le-leb (P .rows * nf) (length j) lj, le-leb (P .rows) (length y) ly, le-leb nf (length free) lf) in
       rw (← s, v, moves, same, f, n)

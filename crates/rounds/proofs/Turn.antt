@@ -105,6 +105,7 @@ module _ (es : List Active) (chosen : List ℕ) (rows nf : ℕ) (free : List ℕ
     chosen-few = s .chosen-few;
     counted = s .counted;
     few = s .few;
+    narrow = s .narrow;
     free-long = s .free-long;
     jacobian-long = ej ∙ s .jacobian-long;
     product-long = ea ∙ s .product-long;

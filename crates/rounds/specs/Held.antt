@@ -7,7 +7,8 @@ use lib.Dec.{eqb}
 use lib.Ieee.{Float}
 use lib.ListN.{length, take}
 use Rattle.floats.specs.Magnitude.{maxOf}
-use Rattle.floats.specs.Ops.{_⊗_, ten, tenth, 1e-10, 1e-15}
+use Rattle.floats.specs.Ops.{_⊗_, zero⁺, ten, tenth, 1e-10, 1e-15}
+use Rattle.normal.specs.declared.Largest.{Largest}
 use Rattle.sketch.specs.declared.Active.{Active}
 use Rattle.sketch.specs.declared.Line.{Line}
 use Rattle.solver.specs.Sums.{norm2Of}
@@ -55,6 +56,7 @@ pub record Shapes (es : List Active) (chosen : List ℕ) (rows nf : ℕ) (free :
   pub chosen-few : length chosen ≤ 40
   pub counted : rows ≡ rowCount es chosen
   pub few : rows ≤ 80
+  pub narrow : nf ≤ 80
   pub free-long : length free ≡ nf
   pub jacobian-long : length j ≡ rows * nf
   pub product-long : length a ≡ rows * rows
@@ -74,10 +76,15 @@ pub record Begun (es : List Active) (ls : List Line) (places chosen : List ℕ) 
 
 -- ---- a round
 
--- the residuals r are those at x, and there are no more free coordinates than a Jacobian has columns
-pub record Apt (es : List Active) (ls : List Line) (places chosen : List ℕ) (nf : ℕ) (x r : List Float) : Type 0 where
-  pub own : r ≡ valuesAt es ls places chosen x
-  pub narrow : nf ≤ 80
+-- the largest number on a diagonal, where there is one
+abbrev pub largestIn : Largest → Float
+largestIn (Largest.Of m) = m
+largestIn Largest.TooMany = zero⁺
+largestIn Largest.TooShort = zero⁺
+
+-- the residuals r are those at x
+abbrev pub Own : List Active → List Line → List ℕ → List ℕ → List Float → List Float → Type 0
+Own es ls places chosen x r = r ≡ valuesAt es ls places chosen x
 
 -- by whether the fit is within the tolerance, a try was taken, and the polishing steps are spent
 abbrev pub stepBy : Bool → Bool → Bool → Fit → Step

@@ -2,7 +2,7 @@
 ghost use mathlib.Core.Path.{_≡_};
 ghost use Prim.Native.Nat.{_≤_, _*_};
 ghost use lib.ListN.{length};
-ghost use Rattle.rounds.specs.Held.{Shapes, Apt, Begun, endedOf};
+ghost use Rattle.rounds.specs.Held.{Shapes, Own, Begun, endedOf};
 ghost use Rattle.rounds.specs.Problem.{rowCount, jacobianAt, problemOf};
 ghost use Rattle.rounds.specs.Promise.{Solves, outcomeOf, zeroed, answerOf, saying};
 ghost use Rattle.rounds.specs.Solve.{solveOf};
@@ -34,7 +34,7 @@ fn opened(
     nf: usize,
 ) -> Ended
     requires { ⌜ Shapes equations (now chosen) rows nf (now free) (now j) (now a) (now x) (now r) (now w) (now y) (now xn) (now rn)
-        × Apt equations lines (now places) (now chosen) nf (now x) (now r) ⌝ }
+        × Own equations lines (now places) (now chosen) (now x) (now r) ⌝ }
     ensures { λ e. ⌜ endedOf (now (x .exit)) e
         ≡ solveOf (problemOf equations lines (now (places .entry)) (now (chosen .entry)) (now (free .entry)) rows) (jacobianAt equations lines (now (places .entry)) (now (chosen .entry)) (now (columns .entry)) nf) (now (x .entry)) ⌝ }
 {

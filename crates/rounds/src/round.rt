@@ -1,7 +1,7 @@
 // A round, and the rounds.
 ghost use mathlib.Core.Path.{_≡_};
 ghost use Prim.Native.Nat.{_≤_};
-ghost use Rattle.rounds.specs.Held.{Shapes, Apt, stepOf, endedOf};
+ghost use Rattle.rounds.specs.Held.{Shapes, Own, largestIn, stepOf, endedOf};
 ghost use Rattle.rounds.specs.Problem.{jacobianAt, problemOf, stateOf, triedOf};
 ghost use Rattle.rounds.specs.Solve.{within, roundOf, roundsOf};
 use crate::Attempted;
@@ -9,6 +9,7 @@ use crate::Ended;
 use crate::Fit;
 use crate::Step;
 use crate::tries::all_tries;
+use normal::Largest;
 use sketch::Active;
 use sketch::Line;
 
@@ -17,6 +18,17 @@ pub(crate) fn within(r: &[f64]) -> bool
     ensures { λ b. ⌜ b ≡ within (now (r .entry)) ⌝ }
 {
     solver::max_abs(r) <= Fit::TOLERANCE
+}
+
+// The largest number on the diagonal; a product has one.
+fn largest(l: Largest) -> f64
+    ensures { λ m. ⌜ m ≡ largestIn l ⌝ }
+{
+    match l {
+        Largest::Of(m) => m,
+        Largest::TooMany => 0.0,
+        Largest::TooShort => 0.0,
+    }
 }
 
 // The residuals r are those at x already, so that only the Jacobian is worked out anew.
@@ -40,13 +52,13 @@ fn one_round(
     fit: Fit,
 ) -> Attempted
     requires { ⌜ Shapes equations (now chosen) rows nf (now free) (now j) (now a) (now x) (now r) (now w) (now y) (now xn) (now rn)
-        × Apt equations lines (now places) (now chosen) nf (now x) (now r) × (fit .iterations ≤ 200) × (fit .tries ≤ 2400) ⌝ }
+        × Own equations lines (now places) (now chosen) (now x) (now r) × (fit .iterations ≤ 200) × (fit .tries ≤ 2400) ⌝ }
     ensures { λ t. ⌜ triedOf (now (x .exit)) (now (r .exit)) t
         ≡ roundOf (problemOf equations lines (now (places .entry)) (now (chosen .entry)) (now (free .entry)) rows) (jacobianAt equations lines (now (places .entry)) (now (chosen .entry)) (now (columns .entry)) nf) (stateOf (now (x .entry)) (now (r .entry)) fit) ⌝ }
 {
     slopes::jacobian(equations, lines, chosen, places, columns, nf, x, j);
     normal::product(j, a, rows, nf);
-    let m = normal::diag_max(a, rows);
+    let m = largest(normal::diag_max(a, rows));
     let begun = fit.begun();
     all_tries(
         equations,
@@ -117,7 +129,7 @@ pub(crate) fn all_rounds(
     fit: Fit,
 ) -> Ended
     requires { ⌜ Shapes equations (now chosen) rows nf (now free) (now j) (now a) (now x) (now r) (now w) (now y) (now xn) (now rn)
-        × Apt equations lines (now places) (now chosen) nf (now x) (now r) × (fit .iterations ≤ 0) × (fit .tries ≤ 0) ⌝ }
+        × Own equations lines (now places) (now chosen) (now x) (now r) × (fit .iterations ≤ 0) × (fit .tries ≤ 0) ⌝ }
     ensures { λ e. ⌜ endedOf (now (x .exit)) e
         ≡ roundsOf (problemOf equations lines (now (places .entry)) (now (chosen .entry)) (now (free .entry)) rows) (jacobianAt equations lines (now (places .entry)) (now (chosen .entry)) (now (columns .entry)) nf) 200 (stateOf (now (x .entry)) (now (r .entry)) fit) ⌝ }
 {

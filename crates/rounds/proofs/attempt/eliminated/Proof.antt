@@ -10,7 +10,7 @@ returns c =
     let e = k .before .before .before .before in
     let s = e .before .before .before .before .before .before in
     eliminated-is (s .args .rows) (s .args .mu) (s .args .m) (s .args .a .now) (s .args .r .now) (s .args .w .now) (s .args .y .now)
-    (e .damped .last .1 .0) (k .copy .last .1 .0) (d .solve-dense .last .0) (d .solve-dense .last .1 .0) (d .solve-dense .result) (c .is-solved .result)
+    (e .damped .last .1 .0) (k .copy .last .1 .0) (d .solve-dense .last .0) (d .solve-dense .last .1 .0) (e .damped .result) (d .solve-dense .result) (c .is-solved .result)
     (s .pre .0) (s .pre .1) (s .pre .2) (s .pre .3) (s .pre .4) (e .damped .ensures) (e .damped .kept .1 .0) (k .copy .ensures) (d .solve-dense .ensures) (c .is-solved .ensures)
 
 pub eliminated-spec : {M : Type 1} → statement M

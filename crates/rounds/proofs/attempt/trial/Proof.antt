@@ -36,7 +36,7 @@ returns-2 c =
     let P = posed s in
     trial-made P (s .args .nf) (s .args .j .now) (s .args .a .now) (s .args .x .now) (s .args .r .now) (e .eliminated .last .1 .1 .1 .0) (s .args .m) (s .args .mu)
     (e .eliminated .result) (e .eliminated .ensures) (s .pre .product-long) (s .args .free .now) (s .args .xn .now) (k .copy .last .1 .0) (d .moved .last .1 .1 .1 .0)
-    (v .values-at .last .1 .1 .1 .1 .1 .0) (i .if1 .left) refl (s .pre .free-long) (s .pre .jacobian-long) (e .eliminated .kept .1 .1 .1 .0 ∙ s .pre .answer-long) (s .pre .trial-long)
+    (v .values-at .last .1 .1 .1 .1 .1 .0) (d .moved .result) (s .pre .few) (s .pre .narrow) (i .if1 .left) refl (s .pre .free-long) (s .pre .jacobian-long) (e .eliminated .kept .1 .1 .1 .0 ∙ s .pre .answer-long) (s .pre .trial-long)
     (k .copy .ensures) (d .moved .ensures) (v .values-at .ensures)
 
 pub trial-spec : {M : Type 1} → statement M

@@ -130,6 +130,7 @@ opened-requires c κs =
         chosen-few = s .pre .0;
         counted = k .first-values .ensures .counted;
         few = few k;
+        narrow = s .pre .1;
         free-long = refl;
         jacobian-long = sym (front (wide k) (s .args .a .now) (in-a k));
         product-long = sym (front (square k) (s .args .b .now) (in-b k));
@@ -139,7 +140,7 @@ opened-requires c κs =
         trial-long = sym (front (length (s .args .x .now)) (replicate 80 zero⁺) (s .pre .2));
         values-long = sym (front (rows k) (replicate 80 zero⁺) (few k));
       },
-      record { own = k .first-values .ensures .own; narrow = s .pre .1 },
+      k .first-values .ensures .own,
     )
 
 slice-relend-prefix-clear : tie.Need-slice-relend-prefix-clear

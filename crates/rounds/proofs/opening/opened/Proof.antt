@@ -24,7 +24,7 @@ returns c =
     let s = w .before .before .before .before .before .before .before .before .before .before .before .before .before .before in
     let P = posed s in
     let J = gradients s in
-    opened-within P J (s .args .x .now) (s .args .r .now) (s .pre .1 .own) (s .args .nf) (s .pre .0 .free-long) (w .within .result) (w .within .ensures) (f .start .result) _ (i .if1 .taken) (f .start .ensures)
+    opened-within P J (s .args .x .now) (s .args .r .now) (s .pre .1) (s .args .nf) (s .pre .0 .free-long) (w .within .result) (w .within .ensures) (f .start .result) _ (i .if1 .taken) (f .start .ensures)
 
 returns-2 : tie.Need-returns-2
 returns-2 c =
@@ -35,7 +35,7 @@ returns-2 c =
     let s = w .before .before .before .before .before .before .before .before .before .before .before .before .before .before in
     let P = posed s in
     let J = gradients s in
-    opened-fixed P J (s .args .x .now) (s .args .r .now) (s .pre .1 .own) (s .args .nf) (s .pre .0 .free-long) (w .within .result) (w .within .ensures) (f .start2 .result) _ (i .if1 .left) (n .if2 .taken) (f .start2 .ensures)
+    opened-fixed P J (s .args .x .now) (s .args .r .now) (s .pre .1) (s .args .nf) (s .pre .0 .free-long) (w .within .result) (w .within .ensures) (f .start2 .result) _ (i .if1 .left) (n .if2 .taken) (f .start2 .ensures)
 
 all-rounds-requires : tie.Need-all-rounds-requires
 all-rounds-requires c κs =
@@ -54,7 +54,7 @@ returns-3 c =
     let s = w .before .before .before .before .before .before .before .before .before .before .before .before .before .before in
     let P = posed s in
     let J = gradients s in
-    opened-rounds P J (s .args .x .now) (s .args .r .now) (s .pre .1 .own) (s .args .nf) (s .pre .0 .free-long) (w .within .result) (w .within .ensures) (f .start3 .result) (m .norm2 .result) (k .all-rounds .last .1 .1 .1 .1 .1 .1 .0) (k .all-rounds .result) (i .if1 .left) (n .if2 .left) (m .norm2 .ensures)
+    opened-rounds P J (s .args .x .now) (s .args .r .now) (s .pre .1) (s .args .nf) (s .pre .0 .free-long) (w .within .result) (w .within .ensures) (f .start3 .result) (m .norm2 .result) (k .all-rounds .last .1 .1 .1 .1 .1 .1 .0) (k .all-rounds .result) (i .if1 .left) (n .if2 .left) (m .norm2 .ensures)
     (f .start3 .ensures) (k .all-rounds .ensures)
 
 pub opened-spec : {M : Type 1} → statement M

@@ -44,7 +44,7 @@ module _ (s : tie.Start Inv-loop μ-loop) where
 loop-holds : tie.Need-loop-holds Inv-loop μ-loop
 loop-holds c =
     let s = c .before .before .before .before .before .before .before .before .before .before .before .before in
-    (search needs, s .pre .2, s .pre .3, s .pre .1 .own, refl, refl, refl, refl, refl, refl, refl, refl, refl)
+    (search needs, s .pre .2, s .pre .3, s .pre .1, refl, refl, refl, refl, refl, refl, refl, refl, refl)
 
 one-round-requires : tie.Need-one-round-requires Inv-loop μ-loop
 one-round-requires c κs =
@@ -55,7 +55,7 @@ one-round-requires c κs =
           (s .args .r .now) (s .args .w .now) (s .args .y .now) (s .args .xn .now) (s .args .rn .now) (l .loop .j) (l .loop .a) (l .loop .x) (l .loop .r) (l .loop .w) (l .loop .y)
           (l .loop .xn) (l .loop .rn) (s .pre .0) (l .loop .inv .7) (l .loop .inv .8) (l .loop .inv .5) (l .loop .inv .6) (l .loop .inv .9) (l .loop .inv .10) (l .loop .inv .11)
           (l .loop .inv .12),
-      record { own = l .loop .inv .3; narrow = s .pre .1 .narrow },
+      l .loop .inv .3,
       omega (arith, l .loop .inv .1, t .loop-test .taken),
       omega (arith, l .loop .inv .2, t .loop-test .taken),
     )
