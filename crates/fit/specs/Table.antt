@@ -4,9 +4,9 @@ use Prim.Native.Nat.{ℕ, zero, suc}
 use mathlib.Core.Bool.{true, false}
 use mathlib.Core.List.{List, [], _∷_}
 use mathlib.Core.Path.{_≡_, refl}
-use lib.Ieee.{Float, nan, inf, eq, ofBits, binary64}
+use lib.Ieee.{Float, nan, inf, ofBits, binary64}
 use lib.ListN.{replicate}
-use Rattle.floats.specs.Ops.{_⊕_, zero⁺, zero⁻, one, two}
+use Rattle.floats.specs.Ops.{zero⁺, zero⁻, one, two}
 use Rattle.groups.specs.Chains.{pointsIn, equationsIn}
 use Rattle.groups.specs.Examples as groups-worked
 use Rattle.groups.specs.Examples.{Group}
@@ -15,8 +15,7 @@ use Rattle.groups.specs.declared.Grouping.{Grouping}
 use Rattle.level.specs.Examples as level-worked
 use Rattle.level.specs.Level.{levelOf}
 use Rattle.loops.specs.Turns.{go, fold}
-use Rattle.members.specs.Examples.{unmoved}
-use Rattle.members.specs.Scale.{moveBy}
+use Rattle.members.specs.Examples.{Unmoved, unmoved}
 use Rattle.root.specs.Examples.{root-two, root-least, root-minus-zero}
 use Rattle.root.specs.Root.{sqrtOf}
 use Rattle.sketch.specs.Blank.{origin, pointIn, blankPoint, blankActive, sample}
@@ -94,8 +93,8 @@ pub record BothSides : Type 0 where
   pub j : (maxAbsOf [] ≡ zero⁺) × (maxAbsOf (nan ∷ []) ≡ inf false)
   -- (k) [[0,1],[1,0]] with 3,4 gives 4,3
   pub k : solutionOf 2 (zero⁺ ∷ one ∷ one ∷ zero⁺ ∷ []) (3·0 ∷ 4·0 ∷ []) ≡ go (4·0 ∷ 3·0 ∷ [])
-  -- (l) unmoved start −0.0 gives +0.0, whatever the size and wherever the coordinate is in units of it
-  pub l : (size x s : Float) → eq x s ≡ true → zero⁻ ⊕ moveBy size x s ≡ zero⁺
+  -- (l) unmoved start −0.0 gives +0.0, of a free point and of a kept one
+  pub l : Unmoved Free × Unmoved Kept
 
 largest : (maxAbsOf [] ≡ zero⁺) × (maxAbsOf (nan ∷ []) ≡ inf false)
 unfolding maxAbsOf largerAbs fold

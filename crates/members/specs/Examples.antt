@@ -4,8 +4,8 @@ use mathlib.Core.Bool.{true}
 use mathlib.Core.List.{List, [], _∷_}
 use mathlib.Core.Path.{_≡_, refl}
 use lib.Ieee.{Float, nan, binary64, ofBits, add, sub, mul, div, eq}
-use lib.ListN.{replicate}
-use Rattle.floats.specs.Ops.{zero⁺, zero⁻, one, two}
+use lib.ListN.{getD, replicate}
+use Rattle.floats.specs.Ops.{_⊖_, _⊘_, zero⁺, zero⁻, one, two}
 use Rattle.groups.specs.Chains.{placesFrom, pointsIn, equationsIn}
 use Rattle.groups.specs.declared.Grouping.{Grouping}
 use Rattle.loops.specs.Turns.{turns, upTo}
@@ -14,7 +14,7 @@ use Rattle.sketch.specs.declared.Point.{Point}
 use Rattle.sketch.specs.declared.State.{State}
 use Rattle.sketch.specs.declared.State.the-variants.{Free, Kept, Placed}
 use Rattle.members.specs.Lists.{withoutOf}
-use Rattle.members.specs.Movable.{pointsAt, freeFrom}
+use Rattle.members.specs.Movable.{nowhere, pointsAt, freeFrom}
 use Rattle.members.specs.Scale.{startOf, moveBy, unscaleTo, unscaleAt, unscaleOf}
 use Rattle.members.specs.Searched.{standsFrom, localOf, positionOf}
 use Rattle.members.specs.Tables.{numberAt, numberedOf, placesOf, columnsOf}
@@ -48,10 +48,15 @@ pub group :
 unfolding placesFrom withoutOf freeFrom numberAt numberedOf standsFrom turns upTo
 group = (refl, refl, refl, refl, refl, refl, refl)
 
--- document 01's (l): an unmoved start −0.0 gives +0.0, whatever the size and wherever it is in units of it
-pub unmoved : (size x s : Float) → eq x s ≡ true → add binary64 zero⁻ (moveBy size x s) ≡ zero⁺
-unfolding moveBy add ofBits
-unmoved size x s e = rw e
+-- document 01's (l): an unmoved start −0.0 gives +0.0, whatever the centre and the size are and wherever the point's other coordinate is,
+-- of a free point and of a kept one
+abbrev pub Unmoved : State → Type 0
+Unmoved state = (centre : Vec2) (size y : Float) (x out : List Float) → eq (getD x 0 nan) ((zero⁻ ⊖ centre .x) ⊘ size) ≡ true
+    → getD (unscaleOf (record { start = record { x = zero⁻; y = y }; state = state } ∷ replicate 39 nowhere) centre size (0 ∷ []) x (zero⁻ ∷ zero⁻ ∷ out)) 0 nan ≡ zero⁺
+
+pub unmoved : Unmoved Free × Unmoved Kept
+unfolding unscaleOf unscaleAt unscaleTo moveBy turns upTo add ofBits
+unmoved = (λ centre size y x out e. rw e, λ centre size y x out e. rw e)
 
 -- so the free and the kept point come back at +0.0, and the placed one at its place, −0.0
 pub back-to-size :

@@ -6,7 +6,7 @@ use mathlib.Core.Path.{_≡_, refl, sym, ap, _∙_}
 use native.Mathlib.Nat.{add-zero, zero-add, add-assoc, add-comm, sub-zero, zero-mul, one-mul, suc-mul, add-mul}
 use native.Mathlib.Omega.{arith}
 use borrow.Author.Tests.{le-ltb, ltb-true}
-use lib.Dec.{ltb, lit≤}
+use lib.Dec.{ltb}
 use lib.Ieee.{Float, nan}
 use lib.ListN.{length, getD, set, drop, replicate, length-append, length-drop, length-set, length-map, length-replicate, List·getD-append}
 use lib.Seq.{set-append-left, set-at, drop-drop}
@@ -43,6 +43,7 @@ use Rattle.rows.specs.Kinds.{
 use Rattle.rows.specs.Located.{localOf, atOf}
 use Rattle.rows.specs.declared.Entry.{Entry}
 use Rattle.sketch.specs.Rows.{rowsOf}
+use Rattle.sketch.proofs.AtMostTwo.{two-at-most}
 use Rattle.sketch.specs.declared.Active.{Active}
 use Rattle.sketch.specs.declared.Equation.{Equation}
 use Rattle.sketch.specs.declared.FreeNo.{FreeNo}
@@ -98,37 +99,12 @@ module _ (es : List Active) (ls : List Line) (places : List ℕ) (x : List Float
       ∙ sym (add-assoc n (rowsOf (equationAt es k)) (length rest))
       ∙ counted ks (n + rowsOf (equationAt es k))
 
--- an equation has at most two rows
-at-most-two : (e : Equation) → rowsOf e ≤ 2
-unfolding rowsOf
-at-most-two (Equation.Coincident a b) = lit≤ tt
-at-most-two (Equation.Level a b axis) = lit≤ tt
-at-most-two (Equation.Parallel i j) = lit≤ tt
-at-most-two (Equation.Perpendicular i j) = lit≤ tt
-at-most-two (Equation.Collinear i j) = lit≤ tt
-at-most-two (Equation.Equal i j) = lit≤ tt
-at-most-two Equation.Held = lit≤ tt
-at-most-two (Equation.Distance a b value) = lit≤ tt
-at-most-two (Equation.AxisDistance a b axis value side) = lit≤ tt
-at-most-two (Equation.Length l value) = lit≤ tt
-at-most-two (Equation.PointLine p l value side) = lit≤ tt
-at-most-two (Equation.ArcEnds c f t) = lit≤ tt
-at-most-two (Equation.Radius c f value) = lit≤ tt
-at-most-two (Equation.LineCircle l c rad side) = lit≤ tt
-at-most-two (Equation.CircleCircle c₁ r₁ c₂ r₂ contact) = lit≤ tt
-at-most-two (Equation.LineArcAt l c p) = lit≤ tt
-at-most-two (Equation.ArcArcAt c₁ c₂ p) = lit≤ tt
-at-most-two (Equation.Midpoint p l) = lit≤ tt
-at-most-two (Equation.ArcMidpoint p c f t) = lit≤ tt
-at-most-two (Equation.Symmetric p q l) = lit≤ tt
-at-most-two (Equation.EqualRadius c₁ f₁ c₂ f₂) = lit≤ tt
-
 rows-most : (es : List Active) (ks : List ℕ) (n : ℕ) → fold (moreRows es) n ks ≤ n + 2 * length ks
 unfolding fold moreRows
 rows-most es [] n = omega arith
 rows-most es (k ∷ ks) n =
     let h = rows-most es ks (n + rowsOf (equationAt es k)) in
-    let two = at-most-two (equationAt es k) in
+    let two = two-at-most (equationAt es k) in
     let c : 2 * suc (length ks) ≡ 2 + 2 * length ks = omega arith in
     rw c (omega (arith, h, two))
 
