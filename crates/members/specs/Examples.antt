@@ -3,7 +3,7 @@
 use mathlib.Core.Bool.{true}
 use mathlib.Core.List.{List, [], _∷_}
 use mathlib.Core.Path.{_≡_, refl}
-use lib.Ieee.{Float, nan, binary64, ofBits, add, sub, mul, div, eq}
+use lib.Ieee.{Float, nan, ofBits, add, sub, mul, div, eq}
 use lib.ListN.{getD, replicate}
 use Rattle.floats.specs.Ops.{_⊖_, _⊘_, zero⁺, zero⁻, one, two}
 use Rattle.groups.specs.Chains.{placesFrom, pointsIn, equationsIn}
