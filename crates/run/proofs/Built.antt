@@ -15,11 +15,15 @@ use Rattle.job.proofs.Theorem.{given-exactly}
 use Rattle.job.specs.Given.{SomeFails, AllFit, Sound, GivenExactly}
 use Rattle.job.specs.Groups.{fitOf}
 use Rattle.job.specs.Promise.{noRoom, numberIn, firstRow, unfit, answerAfter}
+use Rattle.sketch.proofs.Looked.{looks-everywhere}
 use Rattle.sketch.specs.Check.{numberOf, overBound, outOfBounds, refersToNothing, overRows}
+use Rattle.sketch.specs.Indices.{SomeMissing}
+use Rattle.sketch.specs.Numbers.{SomeOut}
 use Rattle.sketch.specs.Rows.{rowsOfBuild}
 use Rattle.sketch.specs.declared.Build.{Build}
 use Rattle.sketch.specs.declared.Ending.{Ending}
 use Rattle.sketch.specs.declared.Ending.the-variants.{Fitted, TooLong, BadForm, TooMany, OutOfBounds, NoSuchItem, TooManyRows, NotConverged, TooShort}
+use Rattle.spelling.proofs.Steps.{never}
 use Rattle.run.specs.Promise.{room, came}
 use Rattle.run.specs.Texts.{Passed}
 
@@ -43,6 +47,11 @@ at-number TooShort = refl
 pub by-number : (e f : Ending) → numberOf e ≡ numberOf f → e ≡ f
 by-number e f h = at-number e ∙ ap endingAt h ∙ sym (at-number f)
 
+-- what a test that fails denies
+denied : {A : Type 0} (t : Bool) → (t ≡ true ↔ A) → t ≡ false ↔ (A → ⊥)
+denied true e = (λ h. absurd (never _ h refl), λ n. absurd (n (e .0 refl)))
+denied false e = (λ h a. never _ refl (e .1 a), λ n. refl)
+
 -- neither 3 nor 9 comes after them
 not-before : (u m r f : Bool) → (firstRow false false u m r f ≢ 3) × (firstRow false false u m r f ≢ 9)
 not-before true m r f = (λ h. absurd (omega arith), λ h. absurd (omega arith))
@@ -59,23 +68,47 @@ module _ (p q r : List Float) (b : Build) where
     given : GivenExactly b (length room) (length p) (length q) (length r)
     given = given-exactly b (length room) (length p) (length q) (length r)
 
+    out : outOfBounds b ≡ true ↔ SomeOut b
+    out = looks-everywhere b .out
+
+    none-out : outOfBounds b ≡ false ↔ (SomeOut b → ⊥)
+    none-out = denied (outOfBounds b) out
+
+    missing : refersToNothing b ≡ true ↔ SomeMissing b
+    missing = looks-everywhere b .missing
+
+    none-missing : refersToNothing b ≡ false ↔ (SomeMissing b → ⊥)
+    none-missing = denied (refersToNothing b) missing
+
     is : builtNumber ≡ numberIn b (length room) (length p) (length q) (length r)
     is = number-is b (length room) (length p) (length q) (length r)
 
-    pub four-of : builtNumber ≡ 4 ↔ outOfBounds b ≡ true
-    four-of = (λ h. given .four .0 (sym is ∙ h) .2, λ u. is ∙ given .four .1 (few, lent, u))
+    pub four-of : builtNumber ≡ 4 ↔ SomeOut b
+    four-of = (λ h. out .0 (given .four .0 (sym is ∙ h) .2), λ u. is ∙ given .four .1 (few, lent, out .1 u))
 
-    pub five-of : builtNumber ≡ 5 ↔ (outOfBounds b ≡ false) × (refersToNothing b ≡ true)
-    five-of = (λ h. let t = given .five .0 (sym is ∙ h) in (t .2, t .3), λ u. is ∙ given .five .1 (few, lent, u .0, u .1))
+    pub five-of : builtNumber ≡ 5 ↔ (SomeOut b → ⊥) × SomeMissing b
+    five-of = (
+      λ h. let t = given .five .0 (sym is ∙ h) in (none-out .0 (t .2), missing .0 (t .3)),
+      λ u. is ∙ given .five .1 (few, lent, none-out .1 (u .0), missing .1 (u .1)),
+    )
 
-    pub six-of : builtNumber ≡ 6 ↔ (outOfBounds b ≡ false) × (refersToNothing b ≡ false) × (64 < rowsOfBuild b)
-    six-of = (λ h. let t = given .six .0 (sym is ∙ h) in (t .2, t .3, t .4), λ u. is ∙ given .six .1 (few, lent, u .0, u .1, u .2))
+    pub six-of : builtNumber ≡ 6 ↔ (SomeOut b → ⊥) × (SomeMissing b → ⊥) × (64 < rowsOfBuild b)
+    six-of = (
+      λ h. let t = given .six .0 (sym is ∙ h) in (none-out .0 (t .2), none-missing .0 (t .3), t .4),
+      λ u. is ∙ given .six .1 (few, lent, none-out .1 (u .0), none-missing .1 (u .1), u .2),
+    )
 
     passed : Sound b (length room) (length p) (length q) (length r) → Passed b
-    passed t = record { numbers = t .numbers; items = t .items; rows = ltb-false 64 (rowsOfBuild b) (t .rows) }
+    passed t = record { numbers = none-out .0 (t .numbers); items = none-missing .0 (t .items); rows = ltb-false 64 (rowsOfBuild b) (t .rows) }
 
     sound : Passed b → Sound b (length room) (length p) (length q) (length r)
-    sound t = record { counts = few; room = lent; numbers = t .numbers; items = t .items; rows = le-ltb 64 (rowsOfBuild b) (t .rows) }
+    sound t = record {
+      counts = few;
+      room = lent;
+      numbers = none-out .1 (t .numbers);
+      items = none-missing .1 (t .items);
+      rows = le-ltb 64 (rowsOfBuild b) (t .rows);
+    }
 
     pub seven-of : builtNumber ≡ 7 ↔ Passed b × SomeFails b
     seven-of = (λ h. let t = given .seven .0 (sym is ∙ h) in (passed (t .0), t .1), λ u. is ∙ given .seven .1 (sound (u .0), u .1))

@@ -1,7 +1,6 @@
 -- The number that a text ends in (document 01, "The numbers a job ends in"), over the bytes that a run leaves in the reply: each is
 -- given exactly when its own row holds and no row before it does, in 01's order, and the form is that of crates/grammar. 9 comes only
 -- from the library: no text ends in it where the areas have room.
-use mathlib.Core.Bool.{true, false}
 use mathlib.Core.List.{List, _++_}
 use mathlib.Core.Logic.{_↔_}
 use mathlib.Core.Path.{_≡_}
@@ -13,7 +12,8 @@ use Rattle.grammar.specs.Job.{Job}
 use Rattle.grammar.specs.Meaning.{buildOf}
 use Rattle.job.specs.Given.{SomeFails, AllFit}
 use Rattle.reply.specs.Figures.{newline, whole}
-use Rattle.sketch.specs.Check.{outOfBounds, refersToNothing}
+use Rattle.sketch.specs.Indices.{SomeMissing}
+use Rattle.sketch.specs.Numbers.{SomeOut}
 use Rattle.sketch.specs.Rows.{rowsOfBuild}
 use Rattle.sketch.specs.declared.Build.{Build}
 use Rattle.spelling.specs.Letters.{ascii}
@@ -30,19 +30,19 @@ pub record Of (s : List ℕ) (P : Build → Type 0) : Type 0 where
   pub writes : Writes s job
   pub holds : P (buildOf job)
 
--- none of 4, 5 and 6
+-- none of 4, 5 and 6: no number is out, no point or line number is missing, and there are at most 64 rows
 pub record Passed (b : Build) : Type 0 where
-  pub numbers : outOfBounds b ≡ false
-  pub items : refersToNothing b ≡ false
+  pub numbers : SomeOut b → ⊥
+  pub items : SomeMissing b → ⊥
   pub rows : rowsOfBuild b ≤ 64
 
 pub record Answers (s reply : List ℕ) : Type 0 where
   pub one : Says reply 1 ↔ 16384 < length s
   pub two : Says reply 2 ↔ (length s ≤ 16384) × (Exceeds s → ⊥) × ((j : Job) → Writes s j → ⊥)
   pub three : Says reply 3 ↔ (length s ≤ 16384) × Exceeds s
-  pub four : Says reply 4 ↔ Of s (λ b. outOfBounds b ≡ true)
-  pub five : Says reply 5 ↔ Of s (λ b. (outOfBounds b ≡ false) × (refersToNothing b ≡ true))
-  pub six : Says reply 6 ↔ Of s (λ b. (outOfBounds b ≡ false) × (refersToNothing b ≡ false) × (64 < rowsOfBuild b))
+  pub four : Says reply 4 ↔ Of s SomeOut
+  pub five : Says reply 5 ↔ Of s (λ b. (SomeOut b → ⊥) × SomeMissing b)
+  pub six : Says reply 6 ↔ Of s (λ b. (SomeOut b → ⊥) × (SomeMissing b → ⊥) × (64 < rowsOfBuild b))
   pub seven : Says reply 7 ↔ Of s (λ b. Passed b × SomeFails b)
   pub fitted : Says reply 0 ↔ Of s (λ b. Passed b × AllFit b)
   pub never-nine : Says reply 9 → ⊥
