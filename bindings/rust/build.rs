@@ -1,6 +1,7 @@
 //! Links libsakiromuk.a, which has the proved code. Its folder is SAKIROMUK_LIB_DIR; where that is not set, `rt staticlib sakiromuk` is
 //! asked for it in this repository, which the first time proves every room below it and takes some ten minutes.
 
+use std::ffi::OsString;
 use std::path::{Path, PathBuf};
 use std::process::Command;
 
@@ -9,12 +10,18 @@ fn main() {
     let target = |part: &str| std::env::var(format!("CARGO_CFG_TARGET_{part}")).unwrap_or_default();
     let (arch, os) = (target("ARCH"), target("OS"));
     assert!(arch == "x86_64" && os == "linux", "libsakiromuk.a is code for x86-64 Linux, not for {arch} {os}");
-    let folder = std::env::var_os("SAKIROMUK_LIB_DIR").map_or_else(proved_here, PathBuf::from);
+    let folder = std::env::var_os("SAKIROMUK_LIB_DIR").map_or_else(proved_here, given);
+    println!("cargo:rustc-link-search=native={}", folder.display());
+    println!("cargo:rustc-link-lib=static=sakiromuk");
+}
+
+/// A folder that holds the archive.
+fn given(folder: OsString) -> PathBuf {
+    let folder = PathBuf::from(folder);
     let archive = folder.join("libsakiromuk.a");
     assert!(archive.is_file(), "there is no {}", archive.display());
     println!("cargo:rerun-if-changed={}", archive.display());
-    println!("cargo:rustc-link-search=native={}", folder.display());
-    println!("cargo:rustc-link-lib=static=sakiromuk");
+    folder
 }
 
 /// The folder of the archive that `rt` makes of the crates beside this package.
