@@ -11,7 +11,7 @@ use std::time::{Duration, Instant};
 
 use job::{Answer, Build, pack};
 use oracle::answer;
-use rooms::sakiromuk::Fitter;
+use sakiromuk::Fitter;
 
 const ROUNDS: usize = 9;
 /// A round runs a job so often that it takes at least this long.

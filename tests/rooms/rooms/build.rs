@@ -1,4 +1,4 @@
-//! Links the archives that `rt staticlib` leaves in target/staticlib, and again where one has changed.
+//! Links librooms_c.a, which `rt staticlib` leaves in target/staticlib, and again where it has changed.
 
 use std::path::Path;
 
@@ -6,8 +6,6 @@ fn main() {
     // Where tests/build lays this crate out, in target/tests/crates/rooms.
     let archives = Path::new(env!("CARGO_MANIFEST_DIR")).join("../../../staticlib");
     println!("cargo:rustc-link-search=native={}", archives.display());
-    for name in ["rooms_c", "run_c"] {
-        println!("cargo:rustc-link-lib=static={name}");
-        println!("cargo:rerun-if-changed={}", archives.join(format!("lib{name}.a")).display());
-    }
+    println!("cargo:rustc-link-lib=static=rooms_c");
+    println!("cargo:rerun-if-changed={}", archives.join("librooms_c.a").display());
 }

@@ -5,8 +5,8 @@ use std::io::BufRead;
 use std::process::ExitCode;
 
 use job::{Build, Call, State, pack};
-use rooms::sakiromuk::{AREA, Fitter};
 use rooms::{NO_GROUP, NONE, REFUSED, SOLVED, Sweep, Tally, one_nan};
+use sakiromuk::{AREA, Fitter};
 
 /// What the lent places of a `lent` call hold before it.
 const LENT: f64 = 7.0;

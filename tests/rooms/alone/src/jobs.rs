@@ -8,7 +8,7 @@ use std::time::Instant;
 
 use job::pack;
 use rooms::Tally;
-use rooms::sakiromuk::{AREA, Fitter};
+use sakiromuk::{AREA, Fitter};
 
 type Outcome = Result<ExitCode, Box<dyn Error>>;
 

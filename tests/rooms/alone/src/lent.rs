@@ -4,8 +4,8 @@ use std::error::Error;
 use std::io::Read;
 use std::process::ExitCode;
 
-use rooms::sakiromuk::{AREA, Fitter, REPLY, run_in};
 use rooms::{NAN, Tally};
+use sakiromuk::{AREA, Fitter, REPLY, run_in};
 
 /// What the lent places hold before a call.
 const BYTE: u8 = 0xaa;

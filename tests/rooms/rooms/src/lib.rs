@@ -1,7 +1,6 @@
-//! The proved code as tests call it: single rooms (librooms_c.a) and whole jobs (librun_c.a), and what every comparison ends in.
+//! Single rooms of the proved code as tests call them (librooms_c.a), and what every comparison ends in.
 
 mod calls;
-pub mod sakiromuk;
 mod tally;
 
 pub use calls::*;

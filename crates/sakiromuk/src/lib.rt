@@ -1,4 +1,5 @@
-// A job on a text, for programs in C and in Rust: tests/job/sakiromuk.h and tests/job/sakiromuk.rs say how it is called.
+// A job on a text, for programs in C and in Rust: bindings/c/sakiromuk.h and bindings/rust say how it is called. The crate has the name of the
+// archive that they link, libsakiromuk.a.
 ghost use Rattle.run.specs.Promise.{Runs};
 
 #[no_mangle]

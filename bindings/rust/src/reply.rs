@@ -1,0 +1,172 @@
+//! A reply, read back.
+
+use std::error::Error;
+use std::fmt;
+use std::str::{FromStr, Split};
+
+use crate::{EquationId, MeasureId, PointId, Status};
+
+/// What a job is answered.
+#[derive(Clone, Debug, PartialEq)]
+pub enum Reply {
+    /// Every equation holds within the tolerance.
+    Fitted(Fitted),
+    /// The equations of some group do not all hold. There are no coordinates: a failed fit is never handed out as a fit.
+    Failed(Failed),
+    /// The job was not fitted at all, for the reason that its status gives: neither [`Status::Fitted`] nor [`Status::NotConverged`].
+    Refused(Status),
+}
+
+/// A fit.
+#[derive(Clone, Debug, PartialEq)]
+pub struct Fitted {
+    /// In how many ways the drawing can still move: 0 where the equations determine it.
+    pub freedom: usize,
+    /// The largest residual of all equations at the fit, in units of the job's size.
+    pub worst: f64,
+    /// The groups: points that equations tie to each other, each by its own fit.
+    pub groups: Vec<Group>,
+    /// Where each point of the job is.
+    pub points: Vec<[f64; 2]>,
+    /// What each measure of the job comes to.
+    pub measures: Vec<f64>,
+}
+
+/// The fit of one group.
+#[derive(Clone, Copy, Debug, PartialEq, Eq)]
+pub struct Group {
+    /// The lowest of its points.
+    pub lowest: PointId,
+    /// In how many ways the group can still move.
+    pub freedom: usize,
+    /// How many iterations its fit took.
+    pub iterations: usize,
+    /// How many tries these took together.
+    pub tries: usize,
+}
+
+/// A fit that failed.
+#[derive(Clone, Debug, PartialEq, Eq)]
+pub struct Failed {
+    /// The lowest point of the first group that does not converge.
+    pub lowest: PointId,
+    /// How many iterations its fit took.
+    pub iterations: usize,
+    /// How many tries these took together.
+    pub tries: usize,
+    /// The equations each of which, left out, would let the rest of the group hold. There may be none.
+    pub suspects: Vec<EquationId>,
+}
+
+impl Reply {
+    /// What the job ended in.
+    pub fn status(&self) -> Status {
+        match self {
+            Self::Fitted(_) => Status::Fitted,
+            Self::Failed(_) => Status::NotConverged,
+            Self::Refused(status) => *status,
+        }
+    }
+
+    /// The fit, or what came instead of one.
+    pub fn fitted(self) -> Result<Fitted, Self> {
+        match self {
+            Self::Fitted(fitted) => Ok(fitted),
+            other => Err(other),
+        }
+    }
+}
+
+impl Fitted {
+    /// Where a point is. Panics where the job that was fitted has no such point.
+    pub fn point(&self, point: PointId) -> [f64; 2] {
+        self.points[point.0]
+    }
+
+    /// What a measure comes to. Panics where the job that was fitted has no such measure.
+    pub fn measure(&self, measure: MeasureId) -> f64 {
+        self.measures[measure.0]
+    }
+}
+
+/// A text that is no reply.
+#[derive(Clone, Copy, Debug, PartialEq, Eq)]
+pub struct Malformed;
+
+impl fmt::Display for Malformed {
+    fn fmt(&self, f: &mut fmt::Formatter<'_>) -> fmt::Result {
+        f.write_str("the text is not of the form of a reply")
+    }
+}
+
+impl Error for Malformed {}
+
+impl FromStr for Reply {
+    type Err = Malformed;
+
+    fn from_str(text: &str) -> Result<Self, Malformed> {
+        // A reply that was cut inside its last line is none.
+        let mut lines = text.strip_suffix('\n').ok_or(Malformed)?.split('\n');
+        let number = u8::try_from(whole(field(&mut lines, "status")?)?).map_err(|_| Malformed)?;
+        let reply = match Status::from_number(number).ok_or(Malformed)? {
+            Status::Fitted => Self::Fitted(fitted(&mut lines)?),
+            Status::NotConverged => Self::Failed(failed(&mut lines)?),
+            refused => Self::Refused(refused),
+        };
+        if lines.next().is_some() { Err(Malformed) } else { Ok(reply) }
+    }
+}
+
+type Lines<'a> = Split<'a, char>;
+
+fn fitted(lines: &mut Lines<'_>) -> Result<Fitted, Malformed> {
+    let count = whole(field(lines, "groups")?)?;
+    let (freedom, worst) = (whole(field(lines, "freedom")?)?, float(field(lines, "worst")?)?);
+    let groups = (0..count).map(|_| group(field(lines, "g")?)).collect::<Result<_, _>>()?;
+    let (mut points, mut measures) = (Vec::new(), Vec::new());
+    for line in lines {
+        match line.split_once('=') {
+            // Every point stands before every measure.
+            Some(("x", value)) if measures.is_empty() => {
+                let [x, y] = fields(value, float)?;
+                points.push([x, y]);
+            }
+            Some(("m", value)) => measures.push(float(value)?),
+            _ => return Err(Malformed),
+        }
+    }
+    Ok(Fitted { freedom, worst, groups, points, measures })
+}
+
+fn group(value: &str) -> Result<Group, Malformed> {
+    let [lowest, freedom, iterations, tries] = fields(value, whole)?;
+    Ok(Group { lowest: PointId(lowest), freedom, iterations, tries })
+}
+
+fn failed(lines: &mut Lines<'_>) -> Result<Failed, Malformed> {
+    let [lowest, iterations, tries] = fields(field(lines, "g")?, whole)?;
+    let suspects = lines.map(|line| whole(line.strip_prefix("c=").ok_or(Malformed)?).map(EquationId)).collect::<Result<_, _>>()?;
+    Ok(Failed { lowest: PointId(lowest), iterations, tries, suspects })
+}
+
+/// The value of the next line, which has this key.
+fn field<'a>(lines: &mut Lines<'a>, key: &str) -> Result<&'a str, Malformed> {
+    lines.next().and_then(|line| line.strip_prefix(key)?.strip_prefix('=')).ok_or(Malformed)
+}
+
+/// So many values, parted by commas.
+fn fields<T: Copy, const N: usize>(value: &str, read: fn(&str) -> Result<T, Malformed>) -> Result<[T; N], Malformed> {
+    let values = value.split(',').map(read).collect::<Result<Vec<_>, _>>()?;
+    values.try_into().map_err(|_| Malformed)
+}
+
+/// A whole number as the fitter writes it: digits alone, and no leading zero.
+fn whole(digits: &str) -> Result<usize, Malformed> {
+    let spelled = digits == "0" || (!digits.starts_with('0') && digits.bytes().all(|b| b.is_ascii_digit()));
+    if spelled { digits.parse().map_err(|_| Malformed) } else { Err(Malformed) }
+}
+
+fn float(digits: &str) -> Result<f64, Malformed> {
+    let spelled = digits.len() == 16 && digits.bytes().all(|b| matches!(b, b'0'..=b'9' | b'a'..=b'f'));
+    if spelled { u64::from_str_radix(digits, 16).map(f64::from_bits).map_err(|_| Malformed) } else { Err(Malformed) }
+}
