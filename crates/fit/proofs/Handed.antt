@@ -8,7 +8,7 @@ use lib.Ieee.{Float}
 use lib.ListN.{length, replicate}
 use Rattle.floats.specs.Ops.{zero⁺}
 use Rattle.members.specs.Lists.{numbersOf}
-use Rattle.members.specs.declared.Listed.{Listed}
+use Rattle.members.specs.declared.Equations.{Equations}
 use Rattle.rounds.specs.Holds.{fit-holds}
 use Rattle.rounds.specs.Problem.{valuesAt}
 use Rattle.rounds.specs.Promise.{convergedBy}
@@ -19,12 +19,12 @@ use Rattle.fit.specs.Frames.{startIn}
 use Rattle.fit.specs.declared.Fitted.{Fitted}
 use Rattle.fit.specs.declared.Frame.{Frame}
 
-module _ (b : Build) (f : Frame) (chosen : Listed) where
+module _ (b : Build) (f : Frame) (chosen : Equations) where
   -- coordinates at the head of the answer's 80 places, at which the chosen equations hold
   pub record Holds (t : Fitted) : Type 0 where
     pub x : List Float
     pub shown : t .x ≡ padded (length (startIn b f)) x
-    pub holds : within (valuesAt (b .equations) (b .lines) (f .places) (numbersOf chosen) x) ≡ true
+    pub holds : within (valuesAt (b .equations) (b .lines) (f .places) (numbersOf (chosen .0)) x) ≡ true
 
   bare : (s : Bool) (n : ℕ) (o : Outcome) → convergedBy (cond s refusal (fittedBy n o) .solved .ending) ≡ false
       → cond s refusal (fittedBy n o) .x ≡ replicate 80 zero⁺
@@ -32,7 +32,7 @@ module _ (b : Build) (f : Frame) (chosen : Listed) where
   bare false n (converged x i t) h = cc
   bare false n (failed i t) h = refl
 
-  held : (s : Bool) (o : Outcome) → outcomeIn b f (numbersOf chosen) ≡ o
+  held : (s : Bool) (o : Outcome) → outcomeIn b f (numbersOf (chosen .0)) ≡ o
       → convergedBy (cond s refusal (fittedBy (length (startIn b f)) o) .solved .ending) ≡ true → Holds (cond s refusal (fittedBy (length (startIn b f)) o))
   held true o e h = absurd (true≢false (sym h))
   held false (failed i t) e h = absurd (true≢false (sym h))
@@ -42,9 +42,9 @@ module _ (b : Build) (f : Frame) (chosen : Listed) where
     pub no-coordinates : convergedBy (t .solved .ending) ≡ false → t .x ≡ replicate 80 zero⁺
     no-coordinates =
         subst (λ (u : Fitted). convergedBy (u .solved .ending) ≡ false → u .x ≡ replicate 80 zero⁺) (sym (made .answer))
-        (bare (short p q r) (length (startIn b f)) (outcomeIn b f (numbersOf chosen)))
+        (bare (short p q r) (length (startIn b f)) (outcomeIn b f (numbersOf (chosen .0))))
 
     pub coordinates-hold : convergedBy (t .solved .ending) ≡ true → Holds t
     coordinates-hold =
         subst (λ (u : Fitted). convergedBy (u .solved .ending) ≡ true → Holds u) (sym (made .answer))
-        (held (short p q r) (outcomeIn b f (numbersOf chosen)) refl)
+        (held (short p q r) (outcomeIn b f (numbersOf (chosen .0))) refl)

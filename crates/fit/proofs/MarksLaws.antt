@@ -9,6 +9,7 @@ use lib.ListN.{length, getD, drop, set, replicate, length-take}
 use lib.Seq.{getD-take}
 use Rattle.loops.specs.Turns.{fold, fold-next, fold-done}
 use Rattle.members.specs.Lists.{Lists, numbersOf, numbers-are}
+use Rattle.members.specs.declared.Equations.{Equations}
 use Rattle.members.specs.declared.Listed.{Listed}
 use Rattle.rounds.specs.Promise.{zeroed, convergedBy}
 use Rattle.rounds.specs.Solve.{Outcome, converged, failed}
@@ -24,10 +25,10 @@ ended-so : (n : ℕ) (o : Outcome) → convergedBy (fittedBy n o .solved .ending
 ended-so n (converged x i t) = refl
 ended-so n (failed i t) = refl
 
-module _ (b : Build) (f : Frame) (k : ℕ) (p q r p′ q′ r′ : List Float) (chosen : Listed) (t : Fitted) (s : Bool) (room : short p q r ≡ false)
-    (l : Lists chosen (withouts b f k)) (h : Fits b f chosen p q r p′ q′ r′ t) (e : s ≡ convergedBy (t .solved .ending)) where
-  rest : numbersOf chosen ≡ withouts b f k
-  rest = numbers-are chosen (withouts b f k) l
+module _ (b : Build) (f : Frame) (k : ℕ) (p q r p′ q′ r′ : List Float) (chosen : Equations) (t : Fitted) (s : Bool) (room : short p q r ≡ false)
+    (l : Lists (chosen .0) (withouts b f k)) (h : Fits b f chosen p q r p′ q′ r′ t) (e : s ≡ convergedBy (t .solved .ending)) where
+  rest : numbersOf (chosen .0) ≡ withouts b f k
+  rest = numbers-are (chosen .0) (withouts b f k) l
 
   came-to : t ≡ fittedBy (length (startIn b f)) (outcomeIn b f (withouts b f k))
   came-to = (rw room at (h .answer)) ∙ ap (λ ks. fittedBy (length (startIn b f)) (outcomeIn b f ks)) rest

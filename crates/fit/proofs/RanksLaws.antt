@@ -52,10 +52,10 @@ abbrev laidIn : Laid → List Float
 laidIn (laid n r) = r
 
 module _ (b : Build) (f : Frame) (nf : ℕ) (x p p′ : List Float) (rows k : ℕ) (free : nf ≡ length (indicesOf (f .free))) (narrow : nf ≤ 80) (room : 6400 ≤ length p)
-    (n : k ≡ length (numbersOf (f .equations))) (few : k ≤ 40)
-    (e : laid rows p′ ≡ jacobianOf (b .equations) (b .lines) (f .places) x (f .columns) nf (take k (f .equations .items)) p) where
+    (n : k ≡ length (numbersOf (f .equations .0))) (few : k ≤ 40)
+    (e : laid rows p′ ≡ jacobianOf (b .equations) (b .lines) (f .places) x (f .columns) nf (take k (f .equations .0 .items)) p) where
   abbrev own : List ℕ
-  own = numbersOf (f .equations)
+  own = numbersOf (f .equations .0)
 
   abbrev all : ℕ
   all = rowCount (b .equations) own
@@ -63,8 +63,8 @@ module _ (b : Build) (f : Frame) (nf : ℕ) (x p p′ : List Float) (rows k : �
   own-few : length own ≤ 40
   own-few = rw (← n) few
 
-  front : take k (f .equations .items) ≡ own
-  front = ap (λ m. take m (f .equations .items)) n ∙ take-again (f .equations .count) (f .equations .items)
+  front : take k (f .equations .0 .items) ≡ own
+  front = ap (λ m. take m (f .equations .0 .items)) n ∙ take-again (f .equations .0 .count) (f .equations .0 .items)
 
   rows-most : all ≤ 80
   rows-most = rows-few (b .equations) own own-few
@@ -140,7 +140,7 @@ module _ (b : Build) (f : Frame) (x p q r : List Float) where
   pub refused : short p q r ≡ true → Frees b f x p q r p q r Degrees.TooShort
   refused h = record { answer = rw h; meaning = rw h; jacobian = rw h; work = rw h; basis = rw h }
 
-  pub refused-rows : (n : ℕ) → short p q r ≡ false → n ≡ rowCount (b .equations) (numbersOf (f .equations)) → 64 < n → Frees b f x p q r p q r Degrees.TooManyRows
+  pub refused-rows : (n : ℕ) → short p q r ≡ false → n ≡ rowCount (b .equations) (numbersOf (f .equations .0)) → 64 < n → Frees b f x p q r p q r Degrees.TooManyRows
   refused-rows n h e k =
       let o : overRows b f ≡ true = rw (← e) (lt-ltb 64 n k) in
       record { answer = rw (h, o); meaning = rw (h, o); jacobian = rw (h, o); work = rw (h, o); basis = rw (h, o) }
@@ -157,7 +157,7 @@ module _ (b : Build) (f : Frame) (x p q r : List Float) where
     unfolding freedomOf
     freedom-is = rw (at-head, t .counted, free)
 
-    pub frees : (d : Degrees) → d ≡ freedBy nf s → short p q r ≡ false → rowCount (b .equations) (numbersOf (f .equations)) ≤ 64 → Frees b f x p q r p₂ q₂ r₂ d
+    pub frees : (d : Degrees) → d ≡ freedBy nf s → short p q r ≡ false → rowCount (b .equations) (numbersOf (f .equations .0)) ≤ 64 → Frees b f x p q r p₂ q₂ r₂ d
     frees d e h k =
         let o : overRows b f ≡ false = le-ltb 64 _ k in
         let is : d ≡ Degrees.Of (freedomOf b f x) = e ∙ ap (freedBy nf) (u .answer) ∙ ap Degrees.Of freedom-is in

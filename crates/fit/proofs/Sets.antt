@@ -10,24 +10,25 @@ use Rattle.members.specs.Lists.{Lists, numbersOf, numbers-are}
 use Rattle.members.specs.Movable.{Holds, pointsAt, freeFrom, indicesOf, indices-are}
 use Rattle.members.specs.Tables.{placesOf, columnsOf}
 use Rattle.members.specs.declared.Coordinates.{Coordinates}
-use Rattle.members.specs.declared.Listed.{Listed}
+use Rattle.members.specs.declared.Equations.{Equations}
+use Rattle.members.specs.declared.Points.{Points}
 use Rattle.sketch.specs.declared.Point.{Point}
 use Rattle.fit.specs.Frames.{frameOf}
 
-pub set-out-is : (points : List Point) (gr : Grouping) (g : ℕ) (l e : Listed) (f : Coordinates) (places columns : List ℕ) → Lists l (pointsIn gr g)
-    → Lists e (equationsIn gr g) → Holds f (freeFrom 0 (pointsAt points (numbersOf l))) → places ≡ placesOf (numbersOf l) → columns ≡ columnsOf (indicesOf f)
+pub set-out-is : (points : List Point) (gr : Grouping) (g : ℕ) (l : Points) (e : Equations) (f : Coordinates) (places columns : List ℕ) → Lists (l .0) (pointsIn gr g)
+    → Lists (e .0) (equationsIn gr g) → Holds f (freeFrom 0 (pointsAt points (numbersOf (l .0)))) → places ≡ placesOf (numbersOf (l .0)) → columns ≡ columnsOf (indicesOf f)
     → record { points = l; equations = e; free = f; places = places; columns = columns } ≡ frameOf points gr g
 unfolding frameOf
 set-out-is points gr g l e f places columns hl he hf hp hc =
-    let h : Holds f (freeFrom 0 (pointsAt points (pointsIn gr g))) = rw (numbers-are l (pointsIn gr g) hl) at hf in
-    rw (hp, hc, numbers-are l (pointsIn gr g) hl, indices-are f (freeFrom 0 (pointsAt points (pointsIn gr g))) h, hl .is, he .is, h .is)
+    let h : Holds f (freeFrom 0 (pointsAt points (pointsIn gr g))) = rw (numbers-are (l .0) (pointsIn gr g) hl) at hf in
+    rw (hp, hc, numbers-are (l .0) (pointsIn gr g) hl, indices-are f (freeFrom 0 (pointsAt points (pointsIn gr g))) h, hl .is, he .is, h .is)
 
 -- what a frame lists can be read back
 module _ (points : List Point) (gr : Grouping) (g : ℕ) where
-  pub points-back : numbersOf (frameOf points gr g .points) ≡ pointsIn gr g
+  pub points-back : numbersOf (frameOf points gr g .points .0) ≡ pointsIn gr g
   unfolding frameOf
   points-back = take-at (pointsIn gr g) _ (length (pointsIn gr g)) refl
 
-  pub equations-back : numbersOf (frameOf points gr g .equations) ≡ equationsIn gr g
+  pub equations-back : numbersOf (frameOf points gr g .equations .0) ≡ equationsIn gr g
   unfolding frameOf
   equations-back = take-at (equationsIn gr g) _ (length (equationsIn gr g)) refl

@@ -15,7 +15,7 @@ use Rattle.members.specs.Movable.{pointsAt, indicesOf}
 use Rattle.members.specs.Scale.{start-length}
 use Rattle.members.specs.Scale as scale
 use Rattle.fit.proofs.Begun.{begun, fewer}
-use Rattle.members.specs.declared.Listed.{Listed}
+use Rattle.members.specs.declared.Equations.{Equations}
 use Rattle.rounds.specs.Promise.{Solves, outcomeOf, answeredBy, coordinatesOf, zeroed, saying, tooMany}
 use Rattle.rounds.specs.Problem.{rowCount, valuesAt}
 use Rattle.rounds.specs.Solve.{Outcome, converged, failed}
@@ -67,18 +67,18 @@ module _ (es : List Active) (ls : List Line) (places columns chosen free : List 
       pick true ea ex = et ∙ rw ea
       pick false ea ex = shown-by n (outcomeOf es ls places columns chosen free x) s x x′ rest t ea ex er et
 
-module _ (b : Build) (f : Frame) (chosen : Listed) (p q r p′ q′ r′ x x′ : List Float) (k₁ k₂ k₃ : ℕ) (s : Solved) (t : Fitted) where
-  pub fit-is : length (f .points .items) ≡ 40 → length (chosen .items) ≡ 40 → length (f .free .items) ≡ 80 → k₁ ≡ min (f .points .count) 40 → k₂ ≡ min (chosen .count) 40
-      → k₃ ≡ min (f .free .count) 80 → x ≡ scale.startIn (b .centre) (b .size) (pointsAt (b .points) (numbersOf (f .points))) (replicate 80 zero⁺)
-      → Solves (b .equations) (b .lines) (f .places) (f .columns) (take k₂ (chosen .items)) (take k₃ (f .free .items)) (take (2 * k₁) x) p q r x′ p′ q′ r′ s
+module _ (b : Build) (f : Frame) (chosen : Equations) (p q r p′ q′ r′ x x′ : List Float) (k₁ k₂ k₃ : ℕ) (s : Solved) (t : Fitted) where
+  pub fit-is : length (f .points .0 .items) ≡ 40 → length (chosen .0 .items) ≡ 40 → length (f .free .items) ≡ 80 → k₁ ≡ min (f .points .0 .count) 40 → k₂ ≡ min (chosen .0 .count) 40
+      → k₃ ≡ min (f .free .count) 80 → x ≡ scale.startIn (b .centre) (b .size) (pointsAt (b .points) (numbersOf (f .points .0))) (replicate 80 zero⁺)
+      → Solves (b .equations) (b .lines) (f .places) (f .columns) (take k₂ (chosen .0 .items)) (take k₃ (f .free .items)) (take (2 * k₁) x) p q r x′ p′ q′ r′ s
       → t ≡ shownOf s (x′ ++ drop (2 * k₁) x) → Fits b f chosen p q r p′ q′ r′ t
   fit-is l n m e₁ e₂ e₃ ex es et =
-      let ps = pointsAt (b .points) (numbersOf (f .points)) in
-      let c : take k₂ (chosen .items) ≡ numbersOf chosen = taken (chosen .items) (chosen .count) k₂ 40 n e₂ in
+      let ps = pointsAt (b .points) (numbersOf (f .points .0)) in
+      let c : take k₂ (chosen .0 .items) ≡ numbersOf (chosen .0) = taken (chosen .0 .items) (chosen .0 .count) k₂ 40 n e₂ in
       let d : take k₃ (f .free .items) ≡ indicesOf (f .free) = taken (f .free .items) (f .free .count) k₃ 80 m e₃ in
-      let few : length (numbersOf chosen) ≤ 40 = rw length-take (omega (arith, n)) in
+      let few : length (numbersOf (chosen .0)) ≤ 40 = rw length-take (omega (arith, n)) in
       let narrow : length (indicesOf (f .free)) ≤ 80 = rw length-take (omega (arith, m)) in
-      let count : length ps ≡ k₁ = length-map (numbersOf (f .points)) _ ∙ length-take (f .points .count) (f .points .items) ∙ rw l (sym e₁) in
+      let count : length ps ≡ k₁ = length-map (numbersOf (f .points .0)) _ ∙ length-take (f .points .0 .count) (f .points .0 .items) ∙ rw l (sym e₁) in
       let size : length (startIn b f) ≡ 2 * k₁ = start-length (b .centre) (b .size) ps ∙ rw count in
       let room : 2 * length ps ≤ length (replicate 80 zero⁺) = rw (count, length-replicate 80 zero⁺) (omega (arith, e₁)) in
       let begins : x ≡ startIn b f ++ drop (2 * length ps) (replicate 80 zero⁺) = begun (b .centre) (b .size) ps x ex room in
@@ -87,22 +87,22 @@ module _ (b : Build) (f : Frame) (chosen : Listed) (p q r p′ q′ r′ x x′ 
       let tail : drop (2 * k₁) x ≡ replicate (80 - length (startIn b f)) zero⁺ =
       ap (drop (2 * k₁)) begins ∙ drop-at (startIn b f) (drop (2 * length ps) (replicate 80 zero⁺)) (2 * k₁) size ∙ fewer 80 (2 * length ps) zero⁺ ∙ rw same in
       let long : length (startIn b f) ≤ 80 = rw size (omega (arith, e₁)) in
-      let solved : Solves (b .equations) (b .lines) (f .places) (f .columns) (numbersOf chosen) (indicesOf (f .free)) (startIn b f) p q r x′ p′ q′ r′ s = rw (c, d, head) at es in
+      let solved : Solves (b .equations) (b .lines) (f .places) (f .columns) (numbersOf (chosen .0)) (indicesOf (f .free)) (startIn b f) p q r x′ p′ q′ r′ s = rw (c, d, head) at es in
       carried solved few narrow long tail et
     where
-      carried : Solves (b .equations) (b .lines) (f .places) (f .columns) (numbersOf chosen) (indicesOf (f .free)) (startIn b f) p q r x′ p′ q′ r′ s
-          → length (numbersOf chosen) ≤ 40 → length (indicesOf (f .free)) ≤ 80 → length (startIn b f) ≤ 80 → drop (2 * k₁) x ≡ replicate (80 - length (startIn b f)) zero⁺
+      carried : Solves (b .equations) (b .lines) (f .places) (f .columns) (numbersOf (chosen .0)) (indicesOf (f .free)) (startIn b f) p q r x′ p′ q′ r′ s
+          → length (numbersOf (chosen .0)) ≤ 40 → length (indicesOf (f .free)) ≤ 80 → length (startIn b f) ≤ 80 → drop (2 * k₁) x ≡ replicate (80 - length (startIn b f)) zero⁺
           → t ≡ shownOf s (x′ ++ drop (2 * k₁) x) → Fits b f chosen p q r p′ q′ r′ t
       carried e few narrow long er et = record {
         answer =
-            shown (b .equations) (b .lines) (f .places) (f .columns) (numbersOf chosen) (indicesOf (f .free)) (startIn b f) p q r x′ p′ q′ r′ s few narrow long e
+            shown (b .equations) (b .lines) (f .places) (f .columns) (numbersOf (chosen .0)) (indicesOf (f .free)) (startIn b f) p q r x′ p′ q′ r′ s few narrow long e
             (length (startIn b f)) (drop (2 * k₁) x) t er et;
-        jacobian = area-p (b .equations) (b .lines) (f .places) (f .columns) (numbersOf chosen) (indicesOf (f .free)) (startIn b f) p q r x′ p′ q′ r′ s few narrow long e;
-        product = area-q (b .equations) (b .lines) (f .places) (f .columns) (numbersOf chosen) (indicesOf (f .free)) (startIn b f) p q r x′ p′ q′ r′ s few narrow long e;
-        copy = area-r (b .equations) (b .lines) (f .places) (f .columns) (numbersOf chosen) (indicesOf (f .free)) (startIn b f) p q r x′ p′ q′ r′ s few narrow long e;
+        jacobian = area-p (b .equations) (b .lines) (f .places) (f .columns) (numbersOf (chosen .0)) (indicesOf (f .free)) (startIn b f) p q r x′ p′ q′ r′ s few narrow long e;
+        product = area-q (b .equations) (b .lines) (f .places) (f .columns) (numbersOf (chosen .0)) (indicesOf (f .free)) (startIn b f) p q r x′ p′ q′ r′ s few narrow long e;
+        copy = area-r (b .equations) (b .lines) (f .places) (f .columns) (numbersOf (chosen .0)) (indicesOf (f .free)) (startIn b f) p q r x′ p′ q′ r′ s few narrow long e;
       }
 
-pub worst-is : (b : Build) (f : Frame) (x : List Float) (chosen : List ℕ) (r : List Float) (m : Float) → chosen ≡ numbersOf (f .equations)
+pub worst-is : (b : Build) (f : Frame) (x : List Float) (chosen : List ℕ) (r : List Float) (m : Float) → chosen ≡ numbersOf (f .equations .0)
     → r ≡ valuesAt (b .equations) (b .lines) (f .places) chosen x → m ≡ maxAbsOf r → m ≡ worstOf b f x
 unfolding worstOf
 worst-is b f x chosen r m c e h = h ∙ rw (e, c)

@@ -62,7 +62,7 @@ module _ (b : Build) (f : Frame) (k : ℕ) where
       of (inr p) (yes q) = inl (List·Memᴰ·head q)
       of (inr p) (no q) = inr (sym (other marks a q) ∙ p)
 
-  unmarked : List·Memᴰ k (numbersOf (f .equations)) ⊎ (getD (replicate 40 false) k false ≡ true) → k < 40 → List·Memᴰ k (numbersOf (f .equations))
+  unmarked : List·Memᴰ k (numbersOf (f .equations .0)) ⊎ (getD (replicate 40 false) k false ≡ true) → k < 40 → List·Memᴰ k (numbersOf (f .equations .0))
   unmarked (inl m) h = m
   unmarked (inr p) h =
       let n : _≡_ {A = Bool} false true = sym (getD-replicate 40 k false false h) ∙ p in
@@ -74,7 +74,7 @@ module _ (b : Build) (gr : Grouping) (g : ℕ) where
   unfolding suspectsOf suspect
   suspects-exactly k h =
       let f = frameIn b gr g in
-      let own = numbersOf (f .equations) in
+      let own = numbersOf (f .equations .0) in
       let long : k < length (replicate 40 false) = rw (length-replicate 40 false) h in (
         λ e. let m = unmarked b f k (listed b f k own (replicate 40 false) e) h in (rw (equations-back (b .points) gr g) at m, rw (equations-back (b .points) gr g) at (sym (marked b f k own (replicate 40 false) long m) ∙ e)),
         λ e. marked b f k own (replicate 40 false) long (rw (equations-back (b .points) gr g) (e .0)) ∙ rw (equations-back (b .points) gr g) (e .1),

@@ -153,7 +153,7 @@ module _ {b b′ : Build} (f : Frame) where
       (λ x. jacobian-on a (f .places) x (f .columns) (length (indicesOf (f .free))) i)
       (start i)
 
-  module _ (a : AgreeOn b b′ (numbersOf (f .equations))) where
+  module _ (a : AgreeOn b b′ (numbersOf (f .equations .0))) where
     freedom-on : (x : List Float) → freedomIn b f x ≡ freedomIn b′ f x
     unfolding freedomOf gradientsOf
     freedom-on x =
@@ -167,7 +167,7 @@ module _ {b b′ : Build} (f : Frame) where
     suspects-on : startIn b f ≡ startIn b′ f → suspectsOf b f ≡ suspectsOf b′ f
     unfolding suspectsOf mark suspect
     suspects-on start =
-        fold-on (numbersOf (f .equations)) (replicate 40 false) (λ marks k m. ap (λ o. set marks k (converges o)) (outcome-on start (less a k)))
+        fold-on (numbersOf (f .equations .0)) (replicate 40 false) (λ marks k m. ap (λ o. set marks k (converges o)) (outcome-on start (less a k)))
 
 -- ---- and the group has one frame and one start in both
 
@@ -179,14 +179,14 @@ module _ {b b′ : Build} {g g′ : ℕ} (s : SharesGroup b b′ g g′) where
   unfolding frameOf
   frames-same =
       λ i. record {
-        points = listedOf (s .listed-points i);
-        equations = listedOf (s .listed-equations i);
+        points = record { 0 = listedOf (s .listed-points i) };
+        equations = record { 0 = listedOf (s .listed-equations i) };
         free = coordinatesOf (freeFrom 0 (points-same i));
         places = placesOf (s .listed-points i);
         columns = columnsOf (freeFrom 0 (points-same i));
       }
 
-  points-listed : pointsAt (b .points) (numbersOf (frameIn b (groupingOf b) g .points)) ≡ pointsAt (b′ .points) (numbersOf (frameIn b (groupingOf b) g .points))
+  points-listed : pointsAt (b .points) (numbersOf (frameIn b (groupingOf b) g .points .0)) ≡ pointsAt (b′ .points) (numbersOf (frameIn b (groupingOf b) g .points .0))
   points-listed = rw (points-back (b .points) (groupingOf b) g) (map-on (pointsOfGroup b g) (s .points))
 
   start-same : startIn b (frameIn b (groupingOf b) g) ≡ startIn b′ (frameIn b (groupingOf b) g)
@@ -195,14 +195,14 @@ module _ {b b′ : Build} {g g′ : ℕ} (s : SharesGroup b b′ g g′) where
   agree : AgreeOn b b′ (equationsOfGroup b g)
   agree = record { equations = s .equations; lines = s .lines }
 
-  agree-listed : AgreeOn b b′ (numbersOf (frameIn b (groupingOf b) g .equations))
+  agree-listed : AgreeOn b b′ (numbersOf (frameIn b (groupingOf b) g .equations .0))
   agree-listed = rw (equations-back (b .points) (groupingOf b) g) agree
 
   pub own-part-alone : FitsAlike b b′ g g′
   own-part-alone =
       let f = frameIn b (groupingOf b) g in
       record {
-        fit = outcome-on f start-same agree-listed ∙ ap (λ f′. outcomeIn b′ f′ (numbersOf (f′ .equations))) frames-same;
+        fit = outcome-on f start-same agree-listed ∙ ap (λ f′. outcomeIn b′ f′ (numbersOf (f′ .equations .0))) frames-same;
         freedom = λ x. freedom-on f agree-listed x ∙ ap (λ f′. freedomIn b′ f′ x) frames-same;
         worst = λ x. worst-on f agree-listed x ∙ ap (λ f′. worstOf b′ f′ x) frames-same;
         suspects = suspects-on f agree-listed start-same ∙ ap (suspectsOf b′) frames-same;

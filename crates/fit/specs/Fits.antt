@@ -13,7 +13,7 @@ use Rattle.loops.specs.Numbers.{Meaning, refused, values, tooShort, tooManyRows
 use Rattle.loops.specs.Turns.{fold}
 use Rattle.members.specs.Lists.{numbersOf, withoutOf}
 use Rattle.members.specs.Movable.{indicesOf}
-use Rattle.members.specs.declared.Listed.{Listed}
+use Rattle.members.specs.declared.Equations.{Equations}
 use Rattle.nullspace.specs.Promise.{decomposedOf}
 use Rattle.nullspace.specs.Steps.{rankOf}
 use Rattle.nullspace.specs.declared.NullSpace.{NullSpace}
@@ -68,29 +68,29 @@ wide b f chosen = rowCount (b .equations) chosen * length (indicesOf (f .free))
 abbrev pub square : Build → List ℕ → ℕ
 square b chosen = rowCount (b .equations) chosen * rowCount (b .equations) chosen
 
-pub record Fits (b : Build) (f : Frame) (chosen : Listed) (p q r p′ q′ r′ : List Float) (t : Fitted) : Type 0 where
-  pub answer : t ≡ cond (short p q r) refusal (fittedBy (length (startIn b f)) (outcomeIn b f (numbersOf chosen)))
-  pub jacobian : p′ ≡ cond (short p q r) p (zeroed (wide b f (numbersOf chosen)) p)
-  pub product : q′ ≡ cond (short p q r) q (zeroed (square b (numbersOf chosen)) q)
-  pub copy : r′ ≡ cond (short p q r) r (zeroed (square b (numbersOf chosen)) r)
+pub record Fits (b : Build) (f : Frame) (chosen : Equations) (p q r p′ q′ r′ : List Float) (t : Fitted) : Type 0 where
+  pub answer : t ≡ cond (short p q r) refusal (fittedBy (length (startIn b f)) (outcomeIn b f (numbersOf (chosen .0))))
+  pub jacobian : p′ ≡ cond (short p q r) p (zeroed (wide b f (numbersOf (chosen .0))) p)
+  pub product : q′ ≡ cond (short p q r) q (zeroed (square b (numbersOf (chosen .0))) q)
+  pub copy : r′ ≡ cond (short p q r) r (zeroed (square b (numbersOf (chosen .0))) r)
 
 -- ---- the largest residual magnitude at x
 
 unfoldable pub worstOf : Build → Frame → List Float → Float
-worstOf b f x = maxAbsOf (valuesAt (b .equations) (b .lines) (f .places) (numbersOf (f .equations)) x)
+worstOf b f x = maxAbsOf (valuesAt (b .equations) (b .lines) (f .places) (numbersOf (f .equations .0)) x)
 
 -- ---- the freedom at x: free coordinates minus rank
 
 unfoldable pub gradientsOf : Build → Frame → List Float → List Float
-gradientsOf b f x = jacobianAt (b .equations) (b .lines) (f .places) (numbersOf (f .equations)) (f .columns) (length (indicesOf (f .free))) x
+gradientsOf b f x = jacobianAt (b .equations) (b .lines) (f .places) (numbersOf (f .equations .0)) (f .columns) (length (indicesOf (f .free))) x
 
 unfoldable pub freedomOf : Build → Frame → List Float → ℕ
 freedomOf b f x =
     let n = length (indicesOf (f .free)) in
-    n - rankOf (decomposedOf (rowCount (b .equations) (numbersOf (f .equations))) n (gradientsOf b f x))
+    n - rankOf (decomposedOf (rowCount (b .equations) (numbersOf (f .equations .0))) n (gradientsOf b f x))
 
 abbrev pub overRows : Build → Frame → Bool
-overRows b f = ltb 64 (rowCount (b .equations) (numbersOf (f .equations)))
+overRows b f = ltb 64 (rowCount (b .equations) (numbersOf (f .equations .0)))
 
 -- 01's numbers for the call, in 01's order: 9, then 6
 abbrev pub meaningOf : Degrees → Meaning ℕ
@@ -104,13 +104,13 @@ checked b f p q r nine six done = cond (short p q r) nine (cond (overRows b f) s
 pub record Frees (b : Build) (f : Frame) (x p q r p′ q′ r′ : List Float) (t : Degrees) : Type 0 where
   pub answer : t ≡ checked b f p q r Degrees.TooShort Degrees.TooManyRows (Degrees.Of (freedomOf b f x))
   pub meaning : meaningOf t ≡ checked b f p q r (refused tooShort) (refused tooManyRows) (values (freedomOf b f x))
-  pub jacobian : p′ ≡ checked b f p q r p p (zeroed (wide b f (numbersOf (f .equations))) p)
-  pub work : q′ ≡ checked b f p q r q q (zeroed (wide b f (numbersOf (f .equations))) q)
+  pub jacobian : p′ ≡ checked b f p q r p p (zeroed (wide b f (numbersOf (f .equations .0))) p)
+  pub work : q′ ≡ checked b f p q r q q (zeroed (wide b f (numbersOf (f .equations .0))) q)
   pub basis : r′ ≡ checked b f p q r r r (zeroed (length (indicesOf (f .free)) * length (indicesOf (f .free))) r)
 
 -- the gradients at the head of an area, and how many rows they are
 pub record Lays (b : Build) (f : Frame) (nf : ℕ) (x p p′ : List Float) (rows : ℕ) : Type 0 where
-  pub counted : rows ≡ rowCount (b .equations) (numbersOf (f .equations))
+  pub counted : rows ≡ rowCount (b .equations) (numbersOf (f .equations .0))
   pub few : rows ≤ 80
   pub long : length (gradientsOf b f x) ≡ rows * nf
   pub laid : p′ ≡ gradientsOf b f x ++ drop (rows * nf) p
@@ -135,18 +135,18 @@ converges (failed i t) = false
 
 -- without equation k the rest converges
 unfoldable pub suspect : Build → Frame → ℕ → Bool
-suspect b f k = converges (outcomeIn b f (withoutOf k (numbersOf (f .equations))))
+suspect b f k = converges (outcomeIn b f (withoutOf k (numbersOf (f .equations .0))))
 
 -- equation k is marked, of those that are no suspects none is
 unfoldable pub mark : Build → Frame → List Bool → ℕ → List Bool
 mark b f marks k = set marks k (suspect b f k)
 
 unfoldable pub suspectsOf : Build → Frame → List Bool
-suspectsOf b f = fold (mark b f) (replicate 40 false) (numbersOf (f .equations))
+suspectsOf b f = fold (mark b f) (replicate 40 false) (numbersOf (f .equations .0))
 
 -- each fit without one equation leaves the areas +0.0 where it used them
 abbrev pub withouts : Build → Frame → ℕ → List ℕ
-withouts b f k = withoutOf k (numbersOf (f .equations))
+withouts b f k = withoutOf k (numbersOf (f .equations .0))
 
 unfoldable pub jacobianLeft : Build → Frame → List Float → ℕ → List Float
 jacobianLeft b f p k = zeroed (wide b f (withouts b f k)) p
@@ -163,9 +163,9 @@ pub record Tests (b : Build) (f : Frame) (k : ℕ) (p q r p′ q′ r′ : List 
 
 pub record Suspects (b : Build) (f : Frame) (p q r p′ q′ r′ : List Float) (t : List Bool) : Type 0 where
   pub answer : t ≡ suspectsOf b f
-  pub jacobian : p′ ≡ fold (jacobianLeft b f) p (numbersOf (f .equations))
-  pub product : q′ ≡ fold (productLeft b f) q (numbersOf (f .equations))
-  pub copy : r′ ≡ fold (productLeft b f) r (numbersOf (f .equations))
+  pub jacobian : p′ ≡ fold (jacobianLeft b f) p (numbersOf (f .equations .0))
+  pub product : q′ ≡ fold (productLeft b f) q (numbersOf (f .equations .0))
+  pub copy : r′ ≡ fold (productLeft b f) r (numbersOf (f .equations .0))
 
 -- 9 where an area is too short, or the marks
 abbrev pub markedOf : Marked → Meaning (List Bool)
@@ -174,14 +174,14 @@ markedOf t = cond (t .short) (refused tooShort) (values (t .marks))
 pub record Marks (b : Build) (f : Frame) (p q r p′ q′ r′ : List Float) (t : Marked) : Type 0 where
   pub answer : t ≡ cond (short p q r) (record { short = true; marks = replicate 40 false }) (record { short = false; marks = suspectsOf b f })
   pub meaning : markedOf t ≡ cond (short p q r) (refused tooShort) (values (suspectsOf b f))
-  pub jacobian : p′ ≡ cond (short p q r) p (fold (jacobianLeft b f) p (numbersOf (f .equations)))
-  pub product : q′ ≡ cond (short p q r) q (fold (productLeft b f) q (numbersOf (f .equations)))
-  pub copy : r′ ≡ cond (short p q r) r (fold (productLeft b f) r (numbersOf (f .equations)))
+  pub jacobian : p′ ≡ cond (short p q r) p (fold (jacobianLeft b f) p (numbersOf (f .equations .0)))
+  pub product : q′ ≡ cond (short p q r) q (fold (productLeft b f) q (numbersOf (f .equations .0)))
+  pub copy : r′ ≡ cond (short p q r) r (fold (productLeft b f) r (numbersOf (f .equations .0)))
 
 -- ---- no second answer, and no other content of a lent place, meets a promise
 
 module _ {b : Build} {f : Frame} {p q r p₁ q₁ r₁ p₂ q₂ r₂ : List Float} where
-  pub only-fit : {chosen : Listed} {t u : Fitted} → Fits b f chosen p q r p₁ q₁ r₁ t → Fits b f chosen p q r p₂ q₂ r₂ u → (t ≡ u) × (p₁ ≡ p₂) × (q₁ ≡ q₂) × (r₁ ≡ r₂)
+  pub only-fit : {chosen : Equations} {t u : Fitted} → Fits b f chosen p q r p₁ q₁ r₁ t → Fits b f chosen p q r p₂ q₂ r₂ u → (t ≡ u) × (p₁ ≡ p₂) × (q₁ ≡ q₂) × (r₁ ≡ r₂)
   only-fit m n =
       (only-answer (m .answer) (n .answer), only-answer (m .jacobian) (n .jacobian), only-answer (m .product) (n .product), only-answer (m .copy) (n .copy))
 

@@ -18,8 +18,8 @@ freeIn points gr g = freeFrom 0 (pointsAt points (pointsIn gr g))
 
 unfoldable pub frameOf : List Point → Grouping → ℕ → Frame
 frameOf points gr g = record {
-  points = listedOf (pointsIn gr g);
-  equations = listedOf (equationsIn gr g);
+  points = record { 0 = listedOf (pointsIn gr g) };
+  equations = record { 0 = listedOf (equationsIn gr g) };
   free = coordinatesOf (freeIn points gr g);
   places = placesOf (pointsIn gr g);
   columns = columnsOf (freeIn points gr g);
@@ -27,4 +27,4 @@ frameOf points gr g = record {
 
 -- where the fit of a group starts: the Rust's `x0`
 abbrev pub startIn : Build → Frame → List Float
-startIn b f = startOf (b .centre) (b .size) (pointsAt (b .points) (numbersOf (f .points)))
+startIn b f = startOf (b .centre) (b .size) (pointsAt (b .points) (numbersOf (f .points .0)))

@@ -23,7 +23,7 @@ use Rattle.fit.specs.declared.Frame.{Frame}
 
 -- the lowest point of a group: its first
 abbrev pub lowestOf : Frame → ℕ
-lowestOf f = getD (f .points .items) 0 0
+lowestOf f = getD (f .points .0 .items) 0 0
 
 -- the freedom of a group; with more than 64 rows it would count none, and no group of a build that passes the check has more
 -- (crates/job/proofs/Rowed.antt)
@@ -37,7 +37,7 @@ module _ (b : Build) (gr : Grouping) (g : ℕ) where
 
   -- `eq.fit(g, &g.constraints)`: converged or failed, the coordinates, the iterations and the tries
   abbrev pub outcomeAt : Outcome
-  outcomeAt = outcomeIn b frameIn (numbersOf (frameIn .equations))
+  outcomeAt = outcomeIn b frameIn (numbersOf (frameIn .equations .0))
 
   -- at given coordinates
   abbrev pub freedomAt : List Float → ℕ

@@ -4,7 +4,7 @@ ghost use Rattle.fit.specs.Fits.{Fits, shownOf, worstOf};
 use crate::Fitted;
 use crate::Frame;
 use loops::smaller;
-use members::Listed;
+use members::Equations;
 use rounds::Ending;
 use rounds::Solved;
 use sketch::Build;
@@ -35,7 +35,7 @@ fn shown(s: Solved, x: [f64; 80]) -> Fitted
 pub fn fit(
     b: Build,
     f: Frame,
-    chosen: Listed,
+    chosen: Equations,
     p: &mut [f64],
     q: &mut [f64],
     r: &mut [f64],
@@ -50,9 +50,9 @@ pub fn fit(
     let columns = f.columns;
     let mut x = [0.0; 80];
     members::start(points, centre, b.size, listed, &mut x);
-    let n = 2 * smaller(listed.count, 40);
-    let items = chosen.items;
-    let k = smaller(chosen.count, 40);
+    let n = 2 * smaller(listed.0.count, 40);
+    let items = chosen.0.items;
+    let k = smaller(chosen.0.count, 40);
     let coordinates = free.items;
     let nf = smaller(free.count, 80);
     let equations = b.equations;
@@ -76,7 +76,7 @@ pub fn fit(
 pub fn worst(b: Build, f: Frame, x: &[f64]) -> f64
     ensures { λ m. ⌜ m ≡ worstOf b f (now (x .entry)) ⌝ }
 {
-    let listed = f.equations;
+    let listed = f.equations.0;
     let items = listed.items;
     let k = smaller(listed.count, 40);
     let places = f.places;

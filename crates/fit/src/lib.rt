@@ -10,14 +10,15 @@ pub use fits::worst;
 pub use frames::set_out;
 pub use marks::suspects;
 use members::Coordinates;
-use members::Listed;
+use members::Equations;
+use members::Points;
 pub use ranks::freedom;
 use rounds::Solved;
 
 // A group set out for its fit: its points and equations, its free coordinates, and the tables of places and columns.
 pub struct Frame {
-    pub points: Listed,
-    pub equations: Listed,
+    pub points: Points,
+    pub equations: Equations,
     pub free: Coordinates,
     pub places: [u8; 40],
     pub columns: [u8; 80],

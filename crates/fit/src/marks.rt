@@ -36,7 +36,7 @@ fn each(b: Build, f: Frame, p: &mut [f64], q: &mut [f64], r: &mut [f64]) -> [boo
     requires { ⌜ short (now p) (now q) (now r) ≡ false ⌝ }
     ensures { λ t. ⌜ Suspects b f (now (p .entry)) (now (q .entry)) (now (r .entry)) (now (p .exit)) (now (q .exit)) (now (r .exit)) t ⌝ }
 {
-    let own = f.equations;
+    let own = f.equations.0;
     let items = own.items;
     let n = numbers(own);
     let mut marks = [false; 40];

@@ -29,9 +29,9 @@ fn held(f: Coordinates) -> usize
 
 // How many rows the frame's own equations have.
 fn row_count(b: Build, f: Frame) -> usize
-    ensures { λ n. ⌜ n ≡ rowCount (b .equations) (numbersOf (f .equations)) ⌝ }
+    ensures { λ n. ⌜ n ≡ rowCount (b .equations) (numbersOf (f .equations .0)) ⌝ }
 {
-    let own = f.equations;
+    let own = f.equations.0;
     let items = own.items;
     let equations = b.equations;
     let n = numbers(own);
@@ -54,7 +54,7 @@ fn lay(b: Build, f: Frame, nf: usize, x: &[f64], p: &mut [f64]) -> usize
     requires { ⌜ (nf ≡ length (indicesOf (f .free))) × (nf ≤ 80) × (6400 ≤ length (now p)) ⌝ }
     ensures { λ rows. ⌜ Lays b f nf (now (x .entry)) (now (p .entry)) (now (p .exit)) rows ⌝ }
 {
-    let own = f.equations;
+    let own = f.equations.0;
     let items = own.items;
     let k = numbers(own);
     let places = f.places;

@@ -25,7 +25,7 @@ use Rattle.job.specs.declared.Went.{Went}
 -- ---- what is taken over from a fit
 
 pub taken-is : (b : Build) (f : Frame) (g : ℕ) (x : List Float) (i t : ℕ) (d : Doing) (points : List Float) (n low : ℕ) (w m : Float) → n ≡ freedomIn b f x
-    → w ≡ worstOf b f x → points ≡ unscaleOf (b .points) (b .centre) (b .size) (numbersOf (f .points)) x (d .points) → low ≡ lowestOf f → m ≡ maxOf (d .worst) w
+    → w ≡ worstOf b f x → points ≡ unscaleOf (b .points) (b .centre) (b .size) (numbersOf (f .points .0)) x (d .points) → low ≡ lowestOf f → m ≡ maxOf (d .worst) w
     → record { points = points; freedom = d .freedom + n; worst = m; groups = set (d .groups) g (record { lowest = low; freedom = n; iterations = i; tries = t }) }
     ≡ takenOf b f g x i t d
 unfolding takenOf
@@ -47,11 +47,11 @@ module _ (b : Build) (gr : Grouping) (g : ℕ) (d : Doing) (f : Frame) (t : Fitt
     (room : short p q r ≡ false) (e : Fits b f (f .equations) p q r p′ q′ r′ t) (k : c ≡ convergedBy (t .solved .ending)) where
   pub one-failed : c ≡ false → fails g (t .solved .iterations) (t .solved .tries) ≡ stepOf b gr g d
   unfolding stepOf
-  one-failed h = rw (← set-out) (failed-by b f g d (length (startIn b f)) (outcomeIn b f (numbersOf (f .equations))) t (e .answer ∙ rw room) (sym k ∙ h))
+  one-failed h = rw (← set-out) (failed-by b f g d (length (startIn b f)) (outcomeIn b f (numbersOf (f .equations .0))) t (e .answer ∙ rw room) (sym k ∙ h))
 
   pub one-converged : (d′ : Doing) → c ≡ true → d′ ≡ takenOf b f g (t .x) (t .solved .iterations) (t .solved .tries) d → fits d′ ≡ stepOf b gr g d
   unfolding stepOf
-  one-converged d′ h q = rw (← set-out) (converged-by b f g d d′ (outcomeIn b f (numbersOf (f .equations))) t (e .answer ∙ rw room) (sym k ∙ h) q)
+  one-converged d′ h q = rw (← set-out) (converged-by b f g d d′ (outcomeIn b f (numbersOf (f .equations .0))) t (e .answer ∙ rw room) (sym k ∙ h) q)
 
 -- ---- the groups
 

@@ -50,7 +50,7 @@ countOf Degrees.TooManyRows = 0
 -- `Ok(GroupResult { points: eq.unscale(g, &x), dof, free })` and what `solve` does with it, of group g, which is set out as f
 unfoldable pub takenOf : Build → Frame → ℕ → List Float → ℕ → ℕ → Doing → Doing
 takenOf b f g x i t d = record {
-  points = unscaleOf (b .points) (b .centre) (b .size) (numbersOf (f .points)) x (d .points);
+  points = unscaleOf (b .points) (b .centre) (b .size) (numbersOf (f .points .0)) x (d .points);
   freedom = d .freedom + freedomIn b f x;
   worst = maxOf (d .worst) (worstOf b f x);
   groups = set (d .groups) g (record { lowest = lowestOf f; freedom = freedomIn b f x; iterations = i; tries = t });

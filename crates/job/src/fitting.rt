@@ -17,7 +17,7 @@ use sketch::Build;
 pub(crate) fn lowest(f: Frame) -> usize
     ensures { λ p. ⌜ p ≡ lowestOf f ⌝ }
 {
-    let listed = f.points;
+    let listed = f.points.0;
     let items = listed.items;
     items[0]
 }

@@ -16,11 +16,16 @@ pub use scale::unscale;
 pub use tables::columns;
 pub use tables::places;
 
-// The numbers of a group's points or equations, rising, and 0 past the count.
+// Numbers that rise, and 0 past the count.
 pub struct Listed {
     pub items: [usize; 40],
     pub count: usize,
 }
+
+// The numbers of a group's points, and those of its equations: one cannot be taken for the other.
+pub struct Points(pub Listed);
+
+pub struct Equations(pub Listed);
 
 // The free coordinates of a group: the k-th point's are 2 k and 2 k + 1. What is past the count is 0.
 pub struct Coordinates {

@@ -4,7 +4,9 @@ ghost use mathlib.Core.Path.{_≡_};
 ghost use Prim.Native.Nat.{_<_};
 ghost use Rattle.groups.specs.Chains.{placesFrom, pointsIn, equationsIn};
 ghost use Rattle.members.specs.Lists.{Lists, listedOf, numbersOf, pushedOf, withoutOf};
+use crate::Equations;
 use crate::Listed;
+use crate::Points;
 use groups::Grouping;
 use loops::smaller;
 
@@ -43,22 +45,30 @@ fn holding(of: [usize; 40], g: usize) -> Listed
     r
 }
 
-pub fn points_of(gr: Grouping, g: usize) -> Listed
-    ensures { λ r. ⌜ Lists r (pointsIn gr g) ⌝ }
+pub fn points_of(gr: Grouping, g: usize) -> Points
+    ensures { λ r. ⌜ Lists (r .0) (pointsIn gr g) ⌝ }
 {
     let of = gr.of_point;
-    holding(of, g)
+    Points(holding(of, g))
 }
 
-pub fn equations_of(gr: Grouping, g: usize) -> Listed
-    ensures { λ r. ⌜ Lists r (equationsIn gr g) ⌝ }
+pub fn equations_of(gr: Grouping, g: usize) -> Equations
+    ensures { λ r. ⌜ Lists (r .0) (equationsIn gr g) ⌝ }
 {
     let of = gr.of_equation;
-    holding(of, g)
+    Equations(holding(of, g))
+}
+
+// The rest without equation k.
+pub fn without(l: Equations, k: usize) -> Equations
+    ensures { λ r. ⌜ Lists (r .0) (withoutOf k (numbersOf (l .0))) ⌝ }
+{
+    let listed = l.0;
+    Equations(rest(listed, k))
 }
 
 // The rest without number k.
-pub fn without(l: Listed, k: usize) -> Listed
+fn rest(l: Listed, k: usize) -> Listed
     ensures { λ r. ⌜ Lists r (withoutOf k (numbersOf l)) ⌝ }
 {
     let n = smaller(l.count, 40);

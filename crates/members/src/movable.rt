@@ -6,6 +6,7 @@ ghost use Rattle.members.specs.Lists.{numbersOf};
 ghost use Rattle.members.specs.Movable.{Holds, fixedOf, knownOf, pointsAt, freeFrom, coordinatesOf, pushedTwo};
 use crate::Coordinates;
 use crate::Listed;
+use crate::Points;
 use loops::smaller;
 use plane::Vec2;
 use sketch::Point;
@@ -64,8 +65,15 @@ fn pushed_two(f: Coordinates, k: usize, wanted: bool) -> Coordinates
     r
 }
 
-// The free coordinates of the listed points.
-pub fn free(points: [Point; 40], l: Listed) -> Coordinates
+// The free coordinates of a group's points.
+pub fn free(points: [Point; 40], l: Points) -> Coordinates
+    ensures { λ r. ⌜ Holds r (freeFrom 0 (pointsAt points (numbersOf (l .0)))) ⌝ }
+{
+    let listed = l.0;
+    free_of(points, listed)
+}
+
+fn free_of(points: [Point; 40], l: Listed) -> Coordinates
     ensures { λ r. ⌜ Holds r (freeFrom 0 (pointsAt points (numbersOf l))) ⌝ }
 {
     let n = smaller(l.count, 40);

@@ -7,6 +7,7 @@ ghost use Rattle.members.specs.Lists.{numbersOf};
 ghost use Rattle.members.specs.Movable.{pointsAt};
 ghost use Rattle.members.specs.Scale.{standing, inUnits, scaledOf, startOf, startIn, moveBy, moved, backTo, unscaleOne, unscaleOf};
 use crate::Listed;
+use crate::Points;
 use crate::movable::known;
 use loops::smaller;
 use plane::Vec2;
@@ -62,8 +63,15 @@ fn start_all(
     }
 }
 
-// Where the fit of the listed points starts, at the head of x.
-pub fn start(points: [Point; 40], centre: Vec2, size: f64, l: Listed, x: &mut [f64])
+// Where the fit of a group's points starts, at the head of x.
+pub fn start(points: [Point; 40], centre: Vec2, size: f64, l: Points, x: &mut [f64])
+    ensures { λ _. ⌜ now (x .exit) ≡ startIn centre size (pointsAt points (numbersOf (l .0))) (now (x .entry)) ⌝ }
+{
+    let listed = l.0;
+    start_of(points, centre, size, listed, x);
+}
+
+fn start_of(points: [Point; 40], centre: Vec2, size: f64, l: Listed, x: &mut [f64])
     ensures { λ _. ⌜ now (x .exit) ≡ startIn centre size (pointsAt points (numbersOf l)) (now (x .entry)) ⌝ }
 {
     let items = l.items;
@@ -119,7 +127,14 @@ fn unscale_one(q: Point, centre: Vec2, size: f64, p: usize, x: &[f64], k: usize,
 
 // The listed points back at their size, among all points: a placed point at its place, any other as far from its start as
 // it has moved.
-pub fn unscale(points: [Point; 40], centre: Vec2, size: f64, l: Listed, x: &[f64], out: &mut [f64])
+pub fn unscale(points: [Point; 40], centre: Vec2, size: f64, l: Points, x: &[f64], out: &mut [f64])
+    ensures { λ _. ⌜ now (out .exit) ≡ unscaleOf points centre size (numbersOf (l .0)) (now (x .entry)) (now (out .entry)) ⌝ }
+{
+    let listed = l.0;
+    unscale_all(points, centre, size, listed, x, out);
+}
+
+fn unscale_all(points: [Point; 40], centre: Vec2, size: f64, l: Listed, x: &[f64], out: &mut [f64])
     ensures { λ _. ⌜ now (out .exit) ≡ unscaleOf points centre size (numbersOf l) (now (x .entry)) (now (out .entry)) ⌝ }
 {
     let n = smaller(l.count, 40);

@@ -7,6 +7,7 @@ ghost use Rattle.members.specs.Movable.{indicesOf};
 ghost use Rattle.members.specs.Tables.{numberedOf, placesOf, columnsOf};
 use crate::Coordinates;
 use crate::Listed;
+use crate::Points;
 use loops::smaller;
 
 fn put(t: &mut [u8], c: usize, k: u8)
@@ -27,8 +28,15 @@ fn number(items: &[usize], n: usize, t: &mut [u8])
     }
 }
 
-// The place of each point among the listed ones, 0 where it is not among them: `binary_search` with its fallback.
-pub fn places(l: Listed) -> [u8; 40]
+// The place of each point among a group's, 0 where it is not among them: `binary_search` with its fallback.
+pub fn places(l: Points) -> [u8; 40]
+    ensures { λ r. ⌜ r ≡ placesOf (numbersOf (l .0)) ⌝ }
+{
+    let listed = l.0;
+    places_of(listed)
+}
+
+fn places_of(l: Listed) -> [u8; 40]
     ensures { λ r. ⌜ r ≡ placesOf (numbersOf l) ⌝ }
 {
     let items = l.items;

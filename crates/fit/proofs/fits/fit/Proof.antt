@@ -13,15 +13,15 @@ array-share-prefix-items : tie.Need-array-share-prefix-items
 array-share-prefix-items c =
     let k = c .before .before .before .before in
     let s = k .before .before .before .before .before .before .before .before .before .before .before .before .before .before .before in
-    let n : length (s .args .chosen .items) ≡ 40 = sized 40 (s .args .chosen .items) (s .good .1 .1 .0 .1 .1 .0 .1 .0 .1) in
+    let n : length (s .args .chosen .0 .items) ≡ 40 = sized 40 (s .args .chosen .0 .items) (s .good .1 .1 .0 .1 .1 .0 .1 .1 .0 .1 .0 .1) in
     omega (arith, k .smaller2 .ensures, n)
 
 slice-aggregate-solve : tie.Need-slice-aggregate-solve
 slice-aggregate-solve c =
     let k = c .before .before .before .before .before in
     let s = k .before .before .before .before .before .before .before .before .before .before .before .before .before .before .before in
-    let n : length (s .args .chosen .items) ≡ 40 = sized 40 (s .args .chosen .items) (s .good .1 .1 .0 .1 .1 .0 .1 .0 .1) in
-    front (k .smaller2 .result) (s .args .chosen .items) (omega (arith, k .smaller2 .ensures, n))
+    let n : length (s .args .chosen .0 .items) ≡ 40 = sized 40 (s .args .chosen .0 .items) (s .good .1 .1 .0 .1 .1 .0 .1 .1 .0 .1 .0 .1) in
+    front (k .smaller2 .result) (s .args .chosen .0 .items) (omega (arith, k .smaller2 .ensures, n))
 
 slice-aggregate-solve-2 : tie.Need-slice-aggregate-solve-2
 slice-aggregate-solve-2 c =
@@ -62,9 +62,9 @@ returns c =
     let k1 = k2 .before .before in
     let x = k1 .before .before in
     let s = x .before .before .before .before .before .before .before .before .before .before .before in
-    let n : length (s .args .chosen .items) ≡ 40 = sized 40 (s .args .chosen .items) (s .good .1 .1 .0 .1 .1 .0 .1 .0 .1) in
+    let n : length (s .args .chosen .0 .items) ≡ 40 = sized 40 (s .args .chosen .0 .items) (s .good .1 .1 .0 .1 .1 .0 .1 .1 .0 .1 .0 .1) in
     let m : length (s .args .f .free .items) ≡ 80 = sized 80 (s .args .f .free .items) (s .good .1 .0 .1 .1 .1 .1 .0 .1 .1 .0 .1 .0 .1) in
-    let l : length (s .args .f .points .items) ≡ 40 = sized 40 (s .args .f .points .items) (s .good .1 .0 .1 .1 .0 .1 .1 .0 .1 .0 .1) in
+    let l : length (s .args .f .points .0 .items) ≡ 40 = sized 40 (s .args .f .points .0 .items) (s .good .1 .0 .1 .1 .0 .1 .1 .0 .1 .1 .0 .1 .0 .1) in
     fit-is (s .args .b) (s .args .f) (s .args .chosen) (s .args .p .now) (s .args .q .now) (s .args .r .now) (o .solve .last .1 .1 .1 .1 .1 .1 .1 .0) (o .solve .last .1 .1 .1 .1 .1 .1 .1 .1 .0) (o .solve .last .1 .1 .1 .1 .1 .1 .1 .1 .1 .0)
     (x .start .last .1 .1 .1 .1 .0) (o .solve .last .1 .1 .1 .1 .1 .1 .0) (k1 .smaller .result) (k2 .smaller2 .result) (k3 .smaller3 .result) (o .solve .result) (t .shown .result) l n m (k1 .smaller .ensures)
     (k2 .smaller2 .ensures) (k3 .smaller3 .ensures) (x .start .ensures) (o .solve .ensures) (t .shown .ensures)

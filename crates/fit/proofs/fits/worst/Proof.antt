@@ -21,10 +21,10 @@ module _ (k : tie.After-smaller) where
   start = k .before .before .before .before
 
   abbrev items : List ℕ
-  items = start .args .f .equations .items
+  items = start .args .f .equations .0 .items
 
   long : length items ≡ 40
-  long = sized 40 items (start .good .1 .0 .1 .1 .1 .0 .1 .1 .0 .1 .0 .1)
+  long = sized 40 items (start .good .1 .0 .1 .1 .1 .0 .1 .1 .0 .1 .1 .0 .1 .0 .1)
 
   fits : k .smaller .result ≤ length items
   fits = omega (arith, k .smaller .ensures, long)
@@ -67,7 +67,7 @@ returns c =
     let k = counted r in
     let s = start k in
     worst-is (s .args .b) (s .args .f) (s .args .x .now) (chosen r) (take (r .residuals .result) (values r)) (c .max-abs .result)
-    (taken (items k) (s .args .f .equations .count) (k .smaller .result) 40 (long k) (k .smaller .ensures)) (found r .own) (c .max-abs .ensures)
+    (taken (items k) (s .args .f .equations .0 .count) (k .smaller .result) 40 (long k) (k .smaller .ensures)) (found r .own) (c .max-abs .ensures)
 
 pub worst-spec : {M : Type 1} → statement M
 worst-spec =

@@ -18,10 +18,10 @@ Inv-loop b f p₀ q₀ r₀ items n marks₀ i₀ p q r marks i =
     × (length q ≡ length q₀)
     × (length r ≡ length r₀)
     × (length marks ≡ 40)
-    × (fold (mark b f) marks (drop i (numbersOf (f .equations))) ≡ suspectsOf b f)
-    × (fold (jacobianLeft b f) p (drop i (numbersOf (f .equations))) ≡ fold (jacobianLeft b f) p₀ (numbersOf (f .equations)))
-    × (fold (productLeft b f) q (drop i (numbersOf (f .equations))) ≡ fold (productLeft b f) q₀ (numbersOf (f .equations)))
-    × (fold (productLeft b f) r (drop i (numbersOf (f .equations))) ≡ fold (productLeft b f) r₀ (numbersOf (f .equations)))
+    × (fold (mark b f) marks (drop i (numbersOf (f .equations .0))) ≡ suspectsOf b f)
+    × (fold (jacobianLeft b f) p (drop i (numbersOf (f .equations .0))) ≡ fold (jacobianLeft b f) p₀ (numbersOf (f .equations .0)))
+    × (fold (productLeft b f) q (drop i (numbersOf (f .equations .0))) ≡ fold (productLeft b f) q₀ (numbersOf (f .equations .0)))
+    × (fold (productLeft b f) r (drop i (numbersOf (f .equations .0))) ≡ fold (productLeft b f) r₀ (numbersOf (f .equations .0)))
 
 abbrev μ-loop : tie.MeasureT-loop
 μ-loop b f p₀ q₀ r₀ items n marks₀ i₀ p q r marks i = n - i
@@ -74,10 +74,10 @@ loop-again c =
       t .suspect .kept .1 .1 .1 .1 .0 ∙ l .loop .inv .2,
       t .suspect .kept .1 .1 .1 .1 .1 .0 ∙ l .loop .inv .3,
       u .put .kept .0 ∙ l .loop .inv .4,
-      turn-next (s .args .f .equations) (m .numbers .result) i (m .numbers .ensures .0) (mark (s .args .b) (s .args .f)) (l .loop .marks) (u .put .last .0) _ h (marked (s .args .b) (s .args .f) (l .loop .marks) (u .put .last .0) _ (t .suspect .result) (u .put .ensures) (t .suspect .ensures .answer)) (l .loop .inv .5),
-      turn-next (s .args .f .equations) (m .numbers .result) i (m .numbers .ensures .0) (jacobianLeft (s .args .b) (s .args .f)) (l .loop .p) (t .suspect .last .1 .1 .1 .0) _ h (t .suspect .ensures .jacobian) (l .loop .inv .6),
-      turn-next (s .args .f .equations) (m .numbers .result) i (m .numbers .ensures .0) (productLeft (s .args .b) (s .args .f)) (l .loop .q) (t .suspect .last .1 .1 .1 .1 .0) _ h (t .suspect .ensures .product) (l .loop .inv .7),
-      turn-next (s .args .f .equations) (m .numbers .result) i (m .numbers .ensures .0) (productLeft (s .args .b) (s .args .f)) (l .loop .r) (t .suspect .last .1 .1 .1 .1 .1 .0) _ h (t .suspect .ensures .copy) (l .loop .inv .8),
+      turn-next (s .args .f .equations .0) (m .numbers .result) i (m .numbers .ensures .0) (mark (s .args .b) (s .args .f)) (l .loop .marks) (u .put .last .0) _ h (marked (s .args .b) (s .args .f) (l .loop .marks) (u .put .last .0) _ (t .suspect .result) (u .put .ensures) (t .suspect .ensures .answer)) (l .loop .inv .5),
+      turn-next (s .args .f .equations .0) (m .numbers .result) i (m .numbers .ensures .0) (jacobianLeft (s .args .b) (s .args .f)) (l .loop .p) (t .suspect .last .1 .1 .1 .0) _ h (t .suspect .ensures .jacobian) (l .loop .inv .6),
+      turn-next (s .args .f .equations .0) (m .numbers .result) i (m .numbers .ensures .0) (productLeft (s .args .b) (s .args .f)) (l .loop .q) (t .suspect .last .1 .1 .1 .1 .0) _ h (t .suspect .ensures .product) (l .loop .inv .7),
+      turn-next (s .args .f .equations .0) (m .numbers .result) i (m .numbers .ensures .0) (productLeft (s .args .b) (s .args .f)) (l .loop .r) (t .suspect .last .1 .1 .1 .1 .1 .0) _ h (t .suspect .ensures .copy) (l .loop .inv .8),
     )
 
 same-length : tie.Need-same-length Inv-loop μ-loop
@@ -95,10 +95,10 @@ returns c =
     let m = l .before in
     let s = m .before .before .before .before .before .before in
     record {
-      answer = turns-over (s .args .f .equations) (m .numbers .result) (l .loop .i) (m .numbers .ensures .0) (mark (s .args .b) (s .args .f)) (l .loop .marks) _ (c .loop-test .left) (l .loop .inv .5);
-      jacobian = turns-over (s .args .f .equations) (m .numbers .result) (l .loop .i) (m .numbers .ensures .0) (jacobianLeft (s .args .b) (s .args .f)) (l .loop .p) _ (c .loop-test .left) (l .loop .inv .6);
-      product = turns-over (s .args .f .equations) (m .numbers .result) (l .loop .i) (m .numbers .ensures .0) (productLeft (s .args .b) (s .args .f)) (l .loop .q) _ (c .loop-test .left) (l .loop .inv .7);
-      copy = turns-over (s .args .f .equations) (m .numbers .result) (l .loop .i) (m .numbers .ensures .0) (productLeft (s .args .b) (s .args .f)) (l .loop .r) _ (c .loop-test .left) (l .loop .inv .8);
+      answer = turns-over (s .args .f .equations .0) (m .numbers .result) (l .loop .i) (m .numbers .ensures .0) (mark (s .args .b) (s .args .f)) (l .loop .marks) _ (c .loop-test .left) (l .loop .inv .5);
+      jacobian = turns-over (s .args .f .equations .0) (m .numbers .result) (l .loop .i) (m .numbers .ensures .0) (jacobianLeft (s .args .b) (s .args .f)) (l .loop .p) _ (c .loop-test .left) (l .loop .inv .6);
+      product = turns-over (s .args .f .equations .0) (m .numbers .result) (l .loop .i) (m .numbers .ensures .0) (productLeft (s .args .b) (s .args .f)) (l .loop .q) _ (c .loop-test .left) (l .loop .inv .7);
+      copy = turns-over (s .args .f .equations .0) (m .numbers .result) (l .loop .i) (m .numbers .ensures .0) (productLeft (s .args .b) (s .args .f)) (l .loop .r) _ (c .loop-test .left) (l .loop .inv .8);
     }
 
 pub each-spec : {M : Type 1} → statement M

@@ -13,13 +13,13 @@ array-share-prefix-items : tie.Need-array-share-prefix-items
 array-share-prefix-items c =
     let k = c .before .before .before .before in
     let s = k .before .before .before .before .before in
-    omega (arith, k .numbers .ensures .0, length-take (s .args .f .equations .count) (s .args .f .equations .items))
+    omega (arith, k .numbers .ensures .0, length-take (s .args .f .equations .0 .count) (s .args .f .equations .0 .items))
 
 slice-aggregate-jacobian : tie.Need-slice-aggregate-jacobian
 slice-aggregate-jacobian c =
     let k = c .before .before .before .before .before in
     let s = k .before .before .before .before .before in
-    front (k .numbers .result) (s .args .f .equations .items) (omega (arith, k .numbers .ensures .0, length-take (s .args .f .equations .count) (s .args .f .equations .items)))
+    front (k .numbers .result) (s .args .f .equations .0 .items) (omega (arith, k .numbers .ensures .0, length-take (s .args .f .equations .0 .count) (s .args .f .equations .0 .items)))
 
 slice-aggregate-jacobian-2 : tie.Need-slice-aggregate-jacobian-2
 slice-aggregate-jacobian-2 c =

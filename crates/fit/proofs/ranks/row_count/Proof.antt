@@ -46,7 +46,7 @@ loop-again c =
     let m = l .before in
     let s = m .before .before .before .before in
     let b = s .args .b in
-    let own = s .args .f .equations in
+    let own = s .args .f .equations .0 in
     let sized : length (b .equations) ≡ 40 = sym (length-map (b .equations) _) ∙ s .good .0 .1 .1 .1 .1 .1 .1 .1 .1 .0 .1 .0 .1 in
     let room : m .numbers .result ≤ length (own .items) = omega (arith, m .numbers .ensures .0, length-take (own .count) (own .items)) in (
       omega (arith, c .before .loop-test .taken),
@@ -79,7 +79,7 @@ loop-again-2 c =
     let m = l .before in
     let s = m .before .before .before .before in
     let b = s .args .b in
-    let own = s .args .f .equations in
+    let own = s .args .f .equations .0 in
     let sized : length (b .equations) ≡ 40 = sym (length-map (b .equations) _) ∙ s .good .0 .1 .1 .1 .1 .1 .1 .1 .1 .0 .1 .0 .1 in
     let room : m .numbers .result ≤ length (own .items) = omega (arith, m .numbers .ensures .0, length-take (own .count) (own .items)) in
     let few : c .rows .result ≤ 2 = rw (c .rows .ensures) (two-at-most _) in (
@@ -94,7 +94,7 @@ returns c =
     let l = c .before in
     let m = l .before in
     let s = m .before .before .before .before in
-    counted (s .args .b .equations) (s .args .f .equations) (m .numbers .result) (l .loop .i) (l .loop .rows) (m .numbers .ensures .0) (c .loop-test .left) (l .loop .inv .2)
+    counted (s .args .b .equations) (s .args .f .equations .0) (m .numbers .result) (l .loop .i) (l .loop .rows) (m .numbers .ensures .0) (c .loop-test .left) (l .loop .inv .2)
 
 pub row-count-spec : {M : Type 1} → statement M
 row-count-spec =

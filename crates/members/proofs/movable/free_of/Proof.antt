@@ -11,8 +11,8 @@ use Rattle.members.proofs.Heads.{PushedTwo, two-start, two-count}
 use Rattle.members.proofs.Knows.{known-is}
 use Rattle.members.proofs.Pushes.{free-next, free-done}
 use Rattle.members.proofs.Sized.{sized}
-use Rattle.members.proofs.movable.free.Statement.{statement}
-use Rattle.members.proofs.movable.free.Tie as tie
+use Rattle.members.proofs.movable.free_of.Statement.{statement}
+use Rattle.members.proofs.movable.free_of.Tie as tie
 
 abbrev Inv-loop : tie.InvT-loop
 Inv-loop points l n f₀ k₀ f k =
@@ -51,8 +51,8 @@ returns c =
     let n : length (a .items) ≡ 40 = sized 40 (a .items) (s .good .1 .0 .1 .1 .0 .1 .0 .1) in
     free-done (s .args .t1) (numbersOf a) (l .k) (l .f) _ (omega (arith, length-take (a .count) (a .items))) (search needs) (l .inv .2)
 
-pub free-spec : {M : Type 1} → statement M
-free-spec =
+pub free-of-spec : {M : Type 1} → statement M
+free-of-spec =
     tie.close
     (tie.spec
     Inv-loop

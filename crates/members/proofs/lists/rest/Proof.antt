@@ -9,8 +9,8 @@ use Rattle.members.specs.Lists.{numbersOf, withoutOf}
 use Rattle.members.proofs.Heads.{Pushed, pushed-start, pushed-count}
 use Rattle.members.proofs.Pushes.{without-next, without-done}
 use Rattle.members.proofs.Sized.{sized}
-use Rattle.members.proofs.lists.without.Statement.{statement}
-use Rattle.members.proofs.lists.without.Tie as tie
+use Rattle.members.proofs.lists.rest.Statement.{statement}
+use Rattle.members.proofs.lists.rest.Tie as tie
 
 abbrev Inv-loop : tie.InvT-loop
 Inv-loop k l n r₀ i₀ r i = (i ≤ n) × (r .count ≤ i) × (Pushed r (withoutOf k (drop i (numbersOf l))) (withoutOf k (numbersOf l)))
@@ -41,8 +41,8 @@ returns c =
     let n : length (a .items) ≡ 40 = sized 40 (a .items) (s .good .0 .1 .1 .0 .1 .0 .1) in
     without-done (numbersOf a) (s .args .k) (l .i) (l .r) _ (omega (arith, length-take (a .count) (a .items))) (search needs) (l .inv .2)
 
-pub without-spec : {M : Type 1} → statement M
-without-spec =
+pub rest-spec : {M : Type 1} → statement M
+rest-spec =
     tie.close
     (tie.spec
     Inv-loop

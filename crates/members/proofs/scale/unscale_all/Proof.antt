@@ -10,8 +10,8 @@ use Rattle.members.specs.Scale.{unscaleAt, unscaleOf}
 use Rattle.members.proofs.Backs.{back-turn, back-done}
 use Rattle.members.proofs.Knows.{one-is}
 use Rattle.members.proofs.Sized.{sized}
-use Rattle.members.proofs.scale.unscale.Statement.{statement}
-use Rattle.members.proofs.scale.unscale.Tie as tie
+use Rattle.members.proofs.scale.unscale_all.Statement.{statement}
+use Rattle.members.proofs.scale.unscale_all.Tie as tie
 
 abbrev Inv-loop : tie.InvT-loop
 Inv-loop centre size x out₀ points l n k₀ out k =
@@ -48,8 +48,8 @@ returns c =
     back-done (a .t1) (a .centre) (a .size) (a .x .now) (a .t4 .items) (a .t4 .count) _ n (c .before .before .smaller .ensures) (l .k) (l .out) _
     (search needs) (l .inv .2)
 
-pub unscale-spec : {M : Type 1} → statement M
-unscale-spec =
+pub unscale-all-spec : {M : Type 1} → statement M
+unscale-all-spec =
     tie.close
     (tie.spec
     Inv-loop

@@ -6,8 +6,8 @@ use lib.ListN.{length, replicate}
 use Rattle.groups.proofs.Counted.{taken}
 use Rattle.members.specs.Tables.{numberedOf}
 use Rattle.members.proofs.Sized.{sized}
-use Rattle.members.proofs.tables.places.Statement.{statement}
-use Rattle.members.proofs.tables.places.Tie as tie
+use Rattle.members.proofs.tables.places_of.Statement.{statement}
+use Rattle.members.proofs.tables.places_of.Tie as tie
 
 number-requires : tie.Need-number-requires
 number-requires c κs =
@@ -21,5 +21,5 @@ returns c =
     let n : length (s .args .l .items) ≡ 40 = sized 40 (s .args .l .items) (s .good .0 .1 .1 .0 .1 .0 .1) in
     c .before .number .ensures ∙ ap (λ l. numberedOf l (replicate 40 0)) (taken (s .args .l .items) (s .args .l .count) _ 40 n (c .before .before .before .smaller .ensures))
 
-pub places-spec : {M : Type 1} → statement M
-places-spec = tie.close (tie.spec (λ c. search needs) (λ c κs. search needs) (λ c. search needs) number-requires returns)
+pub places-of-spec : {M : Type 1} → statement M
+places-of-spec = tie.close (tie.spec (λ c. search needs) (λ c κs. search needs) (λ c. search needs) number-requires returns)
