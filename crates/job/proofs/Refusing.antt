@@ -1,6 +1,6 @@
 -- The order of the refusals, and what a build that passes them all has. Assumes nothing.
 use Prim.Native.Nat.{ℕ, _+_, _*_, _≤_}
-use mathlib.Core.Bool.{Bool, true, false, cond, _||_}
+use mathlib.Core.Bool.{Bool, true, false, _||_}
 use mathlib.Core.Path.{_≡_, refl}
 use native.Mathlib.Omega.{arith}
 use borrow.Author.Tests.{ltb-false}
@@ -12,8 +12,7 @@ use Rattle.sketch.specs.Check.{overBound, checkOf}
 use Rattle.sketch.specs.declared.Build.{Build}
 use Rattle.sketch.specs.declared.Checked.{Checked}
 use Rattle.sketch.specs.declared.Checked.the-variants.{Passes, Ends}
-use Rattle.sketch.specs.declared.Ending.the-variants.{TooMany, TooShort}
-use Rattle.job.specs.Promise.{noRoom, verdictOf}
+use Rattle.job.specs.Promise.{noRoom, inOrder, verdictOf}
 
 -- two numbers for each point, and one for each measure
 pub twice-fits : (b : Build) → overBound b ≡ false → Fits w64 (2 * b .«point_count»)
@@ -22,23 +21,12 @@ twice-fits b h = let n = within b h .0 in record { fits = omega arith }
 pub output-fits : (b : Build) → overBound b ≡ false → Fits w64 (2 * b .«point_count» + b .«measure_count»)
 output-fits b h = let n = within b h in record { fits = omega (arith, n .0, n .3) }
 
-module _ (b : Build) (out p q r : ℕ) where
-  pub verdict-many : overBound b ≡ true → Ends TooMany ≡ verdictOf b out p q r
-  unfolding verdictOf
-  verdict-many h = rw h
-
-  pub verdict-short : overBound b ≡ false → noRoom b out p q r ≡ true → Ends TooShort ≡ verdictOf b out p q r
-  unfolding verdictOf
-  verdict-short h k = rw (h, k)
-
-  pub verdict-checked : (v : Checked) → overBound b ≡ false → noRoom b out p q r ≡ false → v ≡ checkOf b → v ≡ verdictOf b out p q r
-  unfolding verdictOf
-  verdict-checked v h k e = rw (h, k) e
-
-passed : (o n : Bool) (c : Checked) → cond o (Ends TooMany) (cond n (Ends TooShort) c) ≡ Passes → (o ≡ false) × (n ≡ false) × (c ≡ Passes)
+passed : (o n : Bool) (c : Checked) → inOrder o n c ≡ Passes → (o ≡ false) × (n ≡ false) × (c ≡ Passes)
 passed true n c h = (cc, cc, cc)
-passed false true c h = (cc, cc, cc)
-passed false false c h = (refl, refl, h)
+passed false true (Ends e) h = (cc, cc, cc)
+passed false true Passes h = (cc, cc, cc)
+passed false false (Ends e) h = (cc, cc, cc)
+passed false false Passes h = (refl, refl, refl)
 
 none : (o p q r : Bool) → o || p || q || r ≡ false → (o ≡ false) × (p ≡ false) × (q ≡ false) × (r ≡ false)
 none true p q r h = (cc, cc, cc, cc)

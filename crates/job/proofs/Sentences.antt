@@ -1,6 +1,6 @@
 -- `fitted-means-fitted`, `suspects-marked` and `areas-after` (specs/Sentences.antt). Assumes nothing.
 use Prim.Native.Nat.{ℕ}
-use mathlib.Core.Bool.{Bool, true, false, cond}
+use mathlib.Core.Bool.{Bool, true, false}
 use mathlib.Core.List.{List}
 use mathlib.Core.Logic.{_⊎_, inl, inr, _≢_}
 use mathlib.Core.Path.{_≡_, refl}
@@ -19,11 +19,10 @@ use Rattle.sketch.proofs.Given as checked
 use Rattle.sketch.specs.Check.{checkOf, ordered, overBound, outOfBounds, refersToNothing, overRows}
 use Rattle.sketch.specs.declared.Build.{Build}
 use Rattle.sketch.specs.declared.Checked.{Checked}
-use Rattle.sketch.specs.declared.Checked.the-variants.{Passes, Ends}
-use Rattle.sketch.specs.declared.Ending.{Ending}
+use Rattle.sketch.specs.declared.Checked.the-variants.{Passes}
 use Rattle.job.specs.Given.{Sound}
 use Rattle.job.specs.Groups.{Result, fits, fails, fitOf}
-use Rattle.job.specs.Promise.{noRoom, verdictOf, answerAfter, areaAfter, unfit, firstRow}
+use Rattle.job.specs.Promise.{noRoom, inOrder, verdictOf, answerAfter, areaAfter, unfit, firstRow}
 use Rattle.job.specs.Sentences.{Failing, FittedMeansFitted, SuspectsMarked, AreasAfter}
 use Rattle.job.proofs.Theorem.{given-exactly, lowest-fails, fails-some}
 
@@ -46,7 +45,7 @@ module _ (b : Build) where
 
   -- by the rows in 01's order
   left : (a : List Float) (o n u m r f : Bool) → (firstRow o n u m r f ≡ 0) ⊎ (firstRow o n u m r f ≡ 7)
-      → areaAfter a (cond o (Ends Ending.TooMany) (cond n (Ends Ending.TooShort) (ordered o u m r))) ≡ zeroed 8192 a
+      → areaAfter a (inOrder o n (ordered o u m r)) ≡ zeroed 8192 a
   left a true n u m r f (inl h) = cc
   left a true n u m r f (inr h) = cc
   left a false true u m r f (inl h) = cc
@@ -60,7 +59,7 @@ module _ (b : Build) where
   left a false false false false false f h = refl
 
   kept : (a : List Float) (o n u m r f : Bool) → firstRow o n u m r f ≢ 0 → firstRow o n u m r f ≢ 7
-      → areaAfter a (cond o (Ends Ending.TooMany) (cond n (Ends Ending.TooShort) (ordered o u m r))) ≡ a
+      → areaAfter a (inOrder o n (ordered o u m r)) ≡ a
   kept a true n u m r f h k = refl
   kept a false true u m r f h k = refl
   kept a false false true m r f h k = refl

@@ -1,6 +1,6 @@
 -- `given-exactly`, `lowest-fails` and `hands-out-nothing` (specs/Given.antt). Assumes nothing.
 use Prim.Native.Nat.{ℕ, zero, suc, _+_, _*_, _≤_, _<_}
-use mathlib.Core.Bool.{Bool, true, false, cond, _||_}
+use mathlib.Core.Bool.{Bool, true, false, _||_}
 use mathlib.Core.List.{List}
 use mathlib.Core.Logic.{_↔_, _⊎_, inl, inr, _≢_}
 use mathlib.Core.Path.{_≡_, refl, sym, _∙_}
@@ -19,11 +19,9 @@ use Rattle.rounds.specs.Solve.{Outcome, converged, failed}
 use Rattle.sketch.specs.Check.{checkOf, ordered, overBound, outOfBounds, refersToNothing, overRows}
 use Rattle.sketch.specs.Rows.{rowsOfBuild}
 use Rattle.sketch.specs.declared.Build.{Build}
-use Rattle.sketch.specs.declared.Checked.the-variants.{Ends}
-use Rattle.sketch.specs.declared.Ending.{Ending}
-use Rattle.job.specs.Given.{TooMany, TooShort, fitsAt, SomeFails, AllFit, Sound, GivenExactly, LowestFails, HandsOutNothing}
+use Rattle.job.specs.Given.{TooMany, TooShort, SomeFails, AllFit, Sound, GivenExactly, LowestFails, HandsOutNothing}
 use Rattle.job.specs.Groups.{Result, fits, fails, takenOf, stepOf, groupsFrom, groupCount, begin, fitOf, outputBy}
-use Rattle.job.specs.Promise.{noRoom, verdictOf, outputAfter, unfit, firstRow}
+use Rattle.job.specs.Promise.{noRoom, inOrder, verdictOf, outputAfter, unfit, firstRow}
 use Rattle.job.specs.declared.Doing.{Doing}
 use Rattle.job.proofs.Few.{all-counted}
 
@@ -200,7 +198,7 @@ module _ (b : Build) where
   nothing-of out (fails g i t) h = refl
 
   nothing-after : (out : List Float) (o n u m r : Bool) → firstRow o n u m r (unfit (fitOf b)) ≢ 0
-      → outputAfter b out (cond o (Ends Ending.TooMany) (cond n (Ends Ending.TooShort) (ordered o u m r))) ≡ out
+      → outputAfter b out (inOrder o n (ordered o u m r)) ≡ out
   nothing-after out true n u m r h = refl
   nothing-after out false true u m r h = refl
   nothing-after out false false true m r h = refl

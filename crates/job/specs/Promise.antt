@@ -1,7 +1,7 @@
 -- What a job answers and leaves in each lent place, for every input (document 01, "The numbers a job ends in"): numbers 3, 9, 4, 5
 -- and 6 in this order, which return only themselves and change nothing lent; then 7 or 0.
 use Prim.Native.Nat.{ℕ, _+_, _*_}
-use mathlib.Core.Bool.{Bool, true, false, cond, _||_}
+use mathlib.Core.Bool.{Bool, true, false, _||_}
 use mathlib.Core.List.{List}
 use mathlib.Core.Path.{_≡_}
 use lib.Dec.{ltb}
@@ -23,9 +23,22 @@ use Rattle.job.specs.Groups.{Result, fits, fails, fitOf, answerBy, outpu
 abbrev pub noRoom : Build → ℕ → ℕ → ℕ → ℕ → Bool
 noRoom b out p q r = ltb out (2 * b .«point_count» + b .«measure_count») || ltb p 8192 || ltb q 8192 || ltb r 8192
 
+abbrev pub roomOf : Bool → Checked
+roomOf true = Ends TooShort
+roomOf false = Passes
+
+-- of two verdicts the first that ends the job
+abbrev pub firstOf : Checked → Checked → Checked
+firstOf (Ends e) c = Ends e
+firstOf Passes c = c
+
 -- 3 before 9 before the rest of the check
+abbrev pub inOrder : Bool → Bool → Checked → Checked
+inOrder true n c = Ends TooMany
+inOrder false n c = firstOf (roomOf n) c
+
 unfoldable pub verdictOf : Build → ℕ → ℕ → ℕ → ℕ → Checked
-verdictOf b out p q r = cond (overBound b) (Ends TooMany) (cond (noRoom b out p q r) (Ends TooShort) (checkOf b))
+verdictOf b out p q r = inOrder (overBound b) (noRoom b out p q r) (checkOf b)
 
 -- 7: some group does not converge
 abbrev pub unfit : Result → Bool
