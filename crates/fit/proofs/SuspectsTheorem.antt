@@ -3,7 +3,7 @@ use Prim.Native.Nat.{ℕ, _<_}
 use mathlib.Core.Bool.{Bool, true, false}
 use mathlib.Core.List.{List, [], _∷_, List·Memᴰ, List·Memᴰ·head, List·Memᴰ·tail, List·Memᴰ·not-nil, List·Memᴰ·cases-cons}
 use mathlib.Core.Logic.{_⊎_, inl, inr, _≢_}
-use mathlib.Core.Path.{_≡_, sym, _∙_}
+use mathlib.Core.Path.{_≡_, refl, sym, _∙_}
 use native.Mathlib.Decide.{ℕ-discrete}
 use native.Mathlib.Omega.{arith}
 use lib.ListN.{length, getD, set, replicate, length-set, length-replicate, getD-replicate}
@@ -68,6 +68,17 @@ module _ (b : Build) (f : Frame) (k : ℕ) where
       let n : _≡_ {A = Bool} false true = sym (getD-replicate 40 k false false h) ∙ p in
       let z : _≡_ {A = ℕ} 0 1 = cc in
       absurd (omega arith)
+
+module _ (b : Build) (f : Frame) where
+  marked-sized : (l : List ℕ) (marks : List Bool) → length (fold (mark b f) marks l) ≡ length marks
+  unfolding fold mark
+  marked-sized [] marks = refl
+  marked-sized (a ∷ l) marks = marked-sized l (mark b f marks a) ∙ rw length-set
+
+  -- a mark for each of 40 equations
+  pub suspects-sized : length (suspectsOf b f) ≡ 40
+  unfolding suspectsOf
+  suspects-sized = marked-sized (numbersOf (f .equations .0)) (replicate 40 false) ∙ length-replicate 40 false
 
 module _ (b : Build) (gr : Grouping) (g : ℕ) where
   pub suspects-exactly : SuspectsExactly b gr g

@@ -1,4 +1,4 @@
--- `fitted-means-fitted`, `suspects-marked` and `areas-after` (specs/Sentences.antt). Assumes nothing.
+-- `fitted-means-fitted`, `failure-named` and `areas-after` (specs/Sentences.antt). Assumes nothing.
 use Prim.Native.Nat.{ℕ}
 use mathlib.Core.Bool.{Bool, true, false}
 use mathlib.Core.List.{List}
@@ -7,10 +7,12 @@ use mathlib.Core.Path.{_≡_, refl}
 use native.Mathlib.Omega.{arith}
 use lib.Ieee.{Float}
 use lib.ListN.{length}
+use Rattle.answer.specs.Endings.{failedOf}
 use Rattle.fit.proofs.MeansFitted.{fitted-holds}
-use Rattle.fit.proofs.SuspectsTheorem.{suspects-exactly}
+use Rattle.fit.proofs.Lowest.{lowest-is}
+use Rattle.fit.proofs.SuspectsTheorem.{suspects-sized, suspects-exactly}
 use Rattle.fit.specs.Fits.{converges}
-use Rattle.fit.specs.Groups.{outcomeAt, suspectsAt}
+use Rattle.fit.specs.Groups.{frameIn, outcomeAt, suspectsAt, lowestAt}
 use Rattle.groups.proofs.Theorem.{groups-are-chains}
 use Rattle.groups.specs.Listed.{groupingOf}
 use Rattle.rounds.specs.Promise.{zeroed}
@@ -23,7 +25,7 @@ use Rattle.sketch.specs.declared.Checked.the-variants.{Passes}
 use Rattle.job.specs.Given.{Sound}
 use Rattle.job.specs.Groups.{Result, fits, fails, fitOf}
 use Rattle.job.specs.Promise.{noRoom, inOrder, verdictOf, answerAfter, areaAfter, unfit, firstRow}
-use Rattle.job.specs.Sentences.{Failing, FittedMeansFitted, SuspectsMarked, AreasAfter}
+use Rattle.job.specs.Sentences.{Failing, FittedMeansFitted, FailureNamed, AreasAfter}
 use Rattle.job.proofs.Theorem.{given-exactly, lowest-fails, fails-some}
 
 outcome-of : (o : Outcome) → converges o ≡ true → (x : List Float) × (i : ℕ) × (t : ℕ) × (o ≡ converged x i t)
@@ -40,8 +42,9 @@ module _ (b : Build) where
       let l = lowest-fails b j i t e in
       record { group = l .0; unfitted = rw (l .1); earlier = l .2 }
 
-  marks-are : (v : Checked) (j i t : ℕ) → v ≡ Passes → fitOf b ≡ fails j i t → answerAfter b v .suspects ≡ suspectsAt b (groupingOf b) j
-  marks-are v j i t e f = rw (e, f)
+  answer-is : (v : Checked) (j i t : ℕ) → v ≡ Passes → fitOf b ≡ fails j i t
+      → answerAfter b v ≡ failedOf (record { lowest = lowestAt b (groupingOf b) j; freedom = 0; iterations = i; tries = t }) (suspectsAt b (groupingOf b) j)
+  answer-is v j i t e f = rw (e, f)
 
   -- by the rows in 01's order
   left : (a : List Float) (o n u m r f : Bool) → (firstRow o n u m r f ≡ 0) ⊎ (firstRow o n u m r f ≡ 7)
@@ -100,8 +103,21 @@ module _ (b : Build) where
           within = fitted-holds b (groupingOf b) (at .0) (o .0) (o .1) (o .2) (o .3) k m;
         }
 
-    pub suspects-marked : SuspectsMarked b out p q r
-    suspects-marked h =
+    pub failure-named : FailureNamed b out p q r
+    failure-named h =
         let s = given-exactly b out p q r .seven .0 h in
         let f = failure-of (fitOf b) (fails-some b (s .1)) in
-        (f .0, failing (f .0) (f .1) (f .2) (f .3), λ k few. rw (marks-are (verdictOf b out p q r) (f .0) (f .1) (f .2) (verdict-passes (s .0)) (f .3)) (suspects-exactly b (groupingOf b) (f .0) k few))
+        let g = failing (f .0) (f .1) (f .2) (f .3) in
+        record {
+          group = f .0;
+          failing = g;
+          lowest = lowestAt b (groupingOf b) (f .0);
+          is-lowest = lowest-is b (f .0) (passes (s .0)) (g .group);
+          iterations = f .1;
+          tries = f .2;
+          counts = lowest-fails b (f .0) (f .1) (f .2) (f .3) .1;
+          marks = suspectsAt b (groupingOf b) (f .0);
+          answer = answer-is (verdictOf b out p q r) (f .0) (f .1) (f .2) (verdict-passes (s .0)) (f .3);
+          sized = suspects-sized b (frameIn b (groupingOf b) (f .0));
+          exactly = suspects-exactly b (groupingOf b) (f .0);
+        }

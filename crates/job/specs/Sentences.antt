@@ -1,19 +1,21 @@
 -- Sentences on a job that a user would say, of every build and every length of what is lent. Proved in proofs/Sentences.antt.
 use Prim.Native.Nat.{ℕ, _<_}
-use mathlib.Core.Bool.{true, false}
+use mathlib.Core.Bool.{Bool, true, false}
 use mathlib.Core.List.{List, List·Memᴰ}
 use mathlib.Core.Logic.{_↔_, _⊎_, _≢_}
 use mathlib.Core.Path.{_≡_}
 use lib.Ieee.{Float}
 use lib.ListN.{length, getD}
+use Rattle.answer.specs.Endings.{failedOf}
+use Rattle.answer.specs.declared.Answer.{Answer}
 use Rattle.fit.specs.Fits.{converges}
 use Rattle.fit.specs.Groups.{outcomeAt, outcomeWithout, residualsAt}
 use Rattle.floats.specs.Ops.{1e-12}
-use Rattle.groups.specs.Chains.{Touches, equationsIn}
+use Rattle.groups.specs.Chains.{Touches, equationsIn, Lowest}
 use Rattle.groups.specs.Listed.{groupingOf}
 use Rattle.groups.specs.Touches.{touchedBy}
 use Rattle.rounds.specs.Promise.{zeroed}
-use Rattle.rounds.specs.Solve.{converged}
+use Rattle.rounds.specs.Solve.{converged, failed}
 use Rattle.sketch.specs.declared.Build.{Build}
 use Rattle.solver.specs.Sums.{AllWithin}
 use Rattle.job.specs.Given.{fitsAt}
@@ -40,11 +42,24 @@ pub record Failing (b : Build) (g : ℕ) : Type 0 where
 abbrev pub FittedMeansFitted : Build → ℕ → ℕ → ℕ → ℕ → Type 0
 FittedMeansFitted b out p q r = numberIn b out p q r ≡ 0 → (k point : ℕ) → Touches (touchedBy b) k point → Holds b k
 
--- equation k is marked exactly when it is in the failing group and the group without it converges
-abbrev pub SuspectsMarked : Build → ℕ → ℕ → ℕ → ℕ → Type 0
-SuspectsMarked b out p q r = numberIn b out p q r ≡ 7 → (g : ℕ) × Failing b g × ((k : ℕ) → k < 40
-    → getD (answerAfter b (verdictOf b out p q r) .suspects) k false ≡ true
-    ↔ List·Memᴰ k (equationsIn (groupingOf b) g) × (converges (outcomeWithout b (groupingOf b) g k) ≡ true))
+-- 7 names the lowest group that does not converge: the answer has its lowest point and the iterations and tries of its own fit, and marks
+-- equation k exactly when it is in that group and the group without it converges
+pub record Names (b : Build) (a : Answer) : Type 0 where
+  pub group : ℕ
+  pub failing : Failing b group
+  pub lowest : ℕ
+  pub is-lowest : Lowest (groupingOf b) group lowest
+  pub iterations : ℕ
+  pub tries : ℕ
+  pub counts : outcomeAt b (groupingOf b) group ≡ failed iterations tries
+  pub marks : List Bool
+  pub answer : a ≡ failedOf (record { lowest = lowest; freedom = 0; iterations = iterations; tries = tries }) marks
+  pub sized : length marks ≡ 40
+  pub exactly : (k : ℕ) → k < 40
+      → getD marks k false ≡ true ↔ List·Memᴰ k (equationsIn (groupingOf b) group) × (converges (outcomeWithout b (groupingOf b) group k) ≡ true)
+
+abbrev pub FailureNamed : Build → ℕ → ℕ → ℕ → ℕ → Type 0
+FailureNamed b out p q r = numberIn b out p q r ≡ 7 → Names b (answerAfter b (verdictOf b out p q r))
 
 -- what a job leaves in an area that it is lent: +0.0 in the first 8,192 places and the rest as it was where it ends in 0 or 7, and
 -- everything as it was where it refuses
