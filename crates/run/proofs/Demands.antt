@@ -4,11 +4,13 @@ use Rattle.fit.proofs.Theorem.{own-part-alone}
 use Rattle.fit.specs.Table.{both-sides}
 use Rattle.grammar.proofs.Theorem.{reads-form, one-reading}
 use Rattle.groups.proofs.Theorem.{groups-are-chains}
-use Rattle.job.proofs.Sentences.{areas-after, fitted-means-fitted, suspects-marked}
-use Rattle.job.proofs.Theorem.{given-exactly, lowest-fails, hands-out-nothing}
+use Rattle.job.proofs.Sentences.{areas-after, fitted-means-fitted, failure-named}
+use Rattle.job.proofs.Theorem.{given-exactly, hands-out-nothing}
+use Rattle.reply.proofs.Printed.{suspects-are}
 use Rattle.root.proofs.Correct.{rounded, rounded-unique}
 use Rattle.sketch.proofs.Looked.{looks-everywhere}
 use Rattle.run.specs.Demands.{Demands}
+use Rattle.run.proofs.Failures.{failures-printed}
 use Rattle.run.proofs.Theorem.{texts-answered}
 
 pub demands : Demands
@@ -18,8 +20,9 @@ demands = record {
   fields = looks-everywhere;
   output = hands-out-nothing;
   areas = areas-after;
-  failing = lowest-fails;
-  suspects = suspects-marked;
+  failing = failure-named;
+  printed = failures-printed;
+  suspects = suspects-are;
   fitted = fitted-means-fitted;
   root = rounded;
   root-once = rounded-unique;

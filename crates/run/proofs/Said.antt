@@ -55,12 +55,16 @@ module _ (a : Answer) (out : List Float) (points measures : ℕ) (reply : List �
   unfolding writtenOf
   laid-down bs h = rw (le-leb (length bs) (length reply) (omega arith))
 
+  -- the whole reply stands at the head of the slice
+  pub laid : writtenOf bytes reply ≡ bytes ++ drop (length bytes) reply
+  laid = laid-down bytes (short a out points measures)
+
   first-line : (rest : List ℕ) × (writtenOf bytes reply ≡ line-of (numberOf (a .ending)) rest)
   unfolding replyOf statusLine line-of
   first-line =
       let l = linesAfter (a .ending) a out (min points 40) (min measures 20) in
       let d = drop (length bytes) reply in
-      (l ++ d, laid-down bytes (short a out points measures) ∙ append-assoc (statusLine (a .ending)) l d)
+      (l ++ d, laid ∙ append-assoc (statusLine (a .ending)) l d)
 
   pub says-exactly : (k : ℕ) → k < 10 → Says (writtenOf bytes reply) k ↔ numberOf (a .ending) ≡ k
   unfolding line-of

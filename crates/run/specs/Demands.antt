@@ -2,6 +2,7 @@
 -- (proofs/Demands.antt) proves it, each line by the theorem of the room that it is about. What a line says is in the file that its
 -- name is imported from.
 use Prim.Native.Nat.{ℕ}
+use mathlib.Core.Bool.{Bool}
 use mathlib.Core.List.{List}
 use mathlib.Core.Path.{_≡_}
 use lib.Dec.{T}
@@ -14,8 +15,9 @@ use Rattle.grammar.specs.Form.{ReadsForm, OneReading}
 use Rattle.groups.specs.Chains.{GroupsAreChains}
 use Rattle.groups.specs.Listed.{groupingOf}
 use Rattle.groups.specs.Touches.{touchedBy}
-use Rattle.job.specs.Given.{GivenExactly, LowestFails, HandsOutNothing}
-use Rattle.job.specs.Sentences.{FittedMeansFitted, SuspectsMarked, AreasAfter}
+use Rattle.job.specs.Given.{GivenExactly, HandsOutNothing}
+use Rattle.job.specs.Sentences.{FittedMeansFitted, FailureNamed, AreasAfter}
+use Rattle.reply.specs.Theorems.{SuspectsAre}
 use Rattle.root.specs.Root.{sqrtOf}
 use Rattle.root.specs.Rounded.{Rounded}
 use Rattle.sketch.specs.Check.{checkOf}
@@ -23,6 +25,7 @@ use Rattle.sketch.specs.Looked.{LooksEverywhere}
 use Rattle.sketch.specs.declared.Build.{Build}
 use Rattle.sketch.specs.declared.Checked.the-variants.{Passes}
 use Rattle.text.specs.Reader.{readOf}
+use Rattle.run.specs.Failures.{FailuresPrinted}
 use Rattle.run.specs.Texts.{TextsAnswered}
 
 pub record Demands : Type 0 where
@@ -38,9 +41,11 @@ pub record Demands : Type 0 where
   -- them +0.0
   pub output : (b : Build) → HandsOutNothing b
   pub areas : (b : Build) → AreasAfter b
-  -- 7 names the lowest group that fails, and marks exactly the equations of it without which it converges
-  pub failing : (b : Build) → LowestFails b
-  pub suspects : (b : Build) (out p q r : ℕ) → SuspectsMarked b out p q r
+  -- 7 names the lowest group that fails, with its own counts, and marks exactly the equations of it without which it converges; the reply
+  -- to a text prints them so, and the marked ones rising
+  pub failing : (b : Build) (out p q r : ℕ) → FailureNamed b out p q r
+  pub printed : FailuresPrinted
+  pub suspects : (marks : List Bool) → SuspectsAre marks
   -- 0 means fitted: each residual of each equation is finite and at most 1e-12
   pub fitted : (b : Build) (out p q r : ℕ) → FittedMeansFitted b out p q r
   -- ---- 2. the square root is correctly rounded; the rest equals definitions that follow the Rust, which each room's promises are
