@@ -4,7 +4,7 @@ use mathlib.Core.List.{List}
 use mathlib.Core.Path.{_≡_}
 use lib.Ieee.{Float}
 use Rattle.solver.specs.declared.Elimination.{Elimination}
-use Rattle.solver.specs.declared.Elimination.the-variants.{Solved, None, TooMany, TooShort}
+use Rattle.solver.specs.declared.Elimination.the-variants.{Some, None, TooMany, TooShort}
 use Rattle.solver.specs.Promise.{answerOf, matrixAfter, rightAfter}
 use Rattle.nullspace.specs.declared.NullSpace.{NullSpace}
 use Rattle.nullspace.specs.declared.NullSpace.the-variants as nullspace
@@ -12,7 +12,7 @@ use Rattle.nullspace.specs.Promise as spanned
 
 -- document 01's number for a refusal, and 0 or 255 where the call is carried out
 abbrev pub codeOf : Elimination → ℕ
-codeOf Solved = 0
+codeOf Some = 0
 codeOf None = 255
 codeOf TooMany = 3
 codeOf TooShort = 9

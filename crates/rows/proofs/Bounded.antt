@@ -11,7 +11,7 @@ use Rattle.rows.specs.Entries.{Row, noRow}
 use Rattle.rows.specs.Ends.{rowsGiven}
 use Rattle.rows.specs.Kinds.{
   coincidentOf,
-  levelOf,
+  levelKindOf,
   parallelOf,
   perpendicularOf,
   collinearOf,
@@ -41,7 +41,7 @@ pub record Bounded (rs : List Row) : Type 0 where
 module _ (ends : Ends) (at : PointNo → Vec2) where
   pub bounded : (e : Equation) → Bounded (rowsGiven ends at e)
   unfolding
-      rowsGiven coincidentOf levelOf parallelOf perpendicularOf collinearOf equalOf distanceOf axisDistanceOf lengthOf pointLineOf
+      rowsGiven coincidentOf levelKindOf parallelOf perpendicularOf collinearOf equalOf distanceOf axisDistanceOf lengthOf pointLineOf
       arcEndsOf radiusKindOf lineCircleOf circleCircleOf lineArcAtOf arcArcAtOf midpointOf arcMidpointOf symmetricOf equalRadiusOf
   bounded (Equation.Coincident a b) = record { rows = lit≤ tt; first = lit≤ tt; second = lit≤ tt }
   bounded (Equation.Level a b axis) = record { rows = lit≤ tt; first = lit≤ tt; second = lit≤ tt }

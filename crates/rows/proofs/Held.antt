@@ -5,11 +5,13 @@ use mathlib.Core.Path.{_≡_, refl, sym, ap, _∙_}
 use native.Mathlib.Omega.{arith}
 use lib.Ieee.{Float}
 use lib.ListN.{length, set, getD, drop, List·getD-eq-default}
-use Rattle.loops.specs.Turns.{fold, fold-next}
+use Rattle.loops.specs.Turns.{fold}
+use Rattle.loops.proofs.Turning.{fold-next}
 use Rattle.sketch.specs.declared.Active.{Active}
 use Rattle.sketch.specs.declared.Equation.{Equation}
 use Rattle.sketch.specs.declared.Line.{Line}
-use Rattle.rows.specs.Column.{Laid, laid, heldActive, equationAt, nextValue, rowsAt, valuesNext}
+use Rattle.rows.specs.Column.{Laid, laid, equationAt, nextValue, rowsAt, valuesNext}
+use Rattle.sketch.specs.Blank.{blankActive}
 use Rattle.rows.specs.Entries.{Row, valuesOf}
 use Rattle.rows.specs.Kinds.{rowsOfEquation}
 use Rattle.rows.specs.Located.{atOf}
@@ -41,8 +43,8 @@ module _ (row : ℕ) (r : List Float) where
 -- ---- a turn of the loop over the chosen equations
 
 -- past the last equation there is `Held`
-pub held : (es : List Active) (k : ℕ) → length es ≤ k → Equation.Held ≡ equationAt es k
-held es k h = sym (ap (λ (a : Active). a .equation) (List·getD-eq-default es heldActive {n = k} h))
+pub past-is-held : (es : List Active) (k : ℕ) → length es ≤ k → Equation.Held ≡ equationAt es k
+past-is-held es k h = sym (ap (λ (a : Active). a .equation) (List·getD-eq-default es blankActive {n = k} h))
 
 module _ (es : List Active) (ls : List Line) (P : List ℕ) (x : List Float) (chosen : List ℕ) (i : ℕ) (h : i < length chosen) where
   pub values-turn : (row row′ : ℕ) (r r′ : List Float) (e : Equation) (R : Laid) → e ≡ equationAt es (getD chosen i 0)
@@ -57,4 +59,4 @@ module _ (es : List Active) (ls : List Line) (P : List ℕ) (x : List Float) (ch
 
   pub values-past : (row : ℕ) (r : List Float) (R : Laid) → length es ≤ getD chosen i 0
       → fold (valuesNext es ls P x) (laid row r) (drop i chosen) ≡ R → fold (valuesNext es ls P x) (laid row r) (drop (i + 1) chosen) ≡ R
-  values-past row r R k t = values-turn row row r r Equation.Held R (held es _ k) (no-value row r) t
+  values-past row r R k t = values-turn row row r r Equation.Held R (past-is-held es _ k) (no-value row r) t

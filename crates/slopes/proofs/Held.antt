@@ -6,7 +6,8 @@ use native.Mathlib.Nat.{add-mul, mul-le-mul-right}
 use native.Mathlib.Omega.{arith}
 use lib.Ieee.{Float}
 use lib.ListN.{length, getD, drop}
-use Rattle.loops.specs.Turns.{fold, fold-next}
+use Rattle.loops.specs.Turns.{fold}
+use Rattle.loops.proofs.Turning.{fold-next}
 use Rattle.sketch.specs.declared.Active.{Active}
 use Rattle.sketch.specs.declared.Equation.{Equation}
 use Rattle.sketch.specs.declared.Line.{Line}
@@ -15,7 +16,7 @@ use Rattle.rows.specs.Entries.{Row}
 use Rattle.rows.specs.Kinds.{rowsOfEquation}
 use Rattle.rows.specs.Located.{atOf}
 use Rattle.rows.proofs.Bounded.{Bounded}
-use Rattle.rows.proofs.Held.{held}
+use Rattle.rows.proofs.Held.{past-is-held}
 use Rattle.slopes.specs.Arms.{rowsFrom, rowsInto}
 use Rattle.slopes.specs.Dense.{nextRow, rowInto, rowsNext}
 use Rattle.slopes.specs.declared.dense.Into.{Into}
@@ -76,4 +77,4 @@ module _ (es : List Active) (ls : List Line) (P : List ℕ) (x : List Float) (ch
 
   pub rows-past : (C : List ℕ) (n row : ℕ) (j : List Float) (R : Laid) → length es ≤ getD chosen i 0
       → fold (rowsNext es ls P x C n) (laid row j) (drop i chosen) ≡ R → fold (rowsNext es ls P x C n) (laid row j) (drop (i + 1) chosen) ≡ R
-  rows-past C n row j R k t = rows-turn C n row row j j Equation.Held R (held es _ k) (no-row C n row j) t
+  rows-past C n row j R k t = rows-turn C n row row j j Equation.Held R (past-is-held es _ k) (no-row C n row j) t

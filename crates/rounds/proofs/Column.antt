@@ -11,15 +11,16 @@ use lib.Ieee.{Float, nan}
 use lib.ListN.{length, getD, set, drop, replicate, length-append, length-drop, length-set, length-map, length-replicate, List·getD-append}
 use lib.Seq.{set-append-left, set-at, drop-drop}
 use Rattle.floats.specs.Ops.{_⊕_, zero⁺}
-use Rattle.loops.specs.Parts.{get-past, set-past}
-use Rattle.loops.specs.Turns.{fold, fold-append, upTo, turns}
+use Rattle.loops.proofs.Parts.{get-past, set-past}
+use Rattle.loops.specs.Turns.{fold, upTo, turns}
+use Rattle.loops.proofs.Turning.{fold-append}
 use Rattle.plane.specs.declared.Vec2.{Vec2}
 use Rattle.rows.specs.Column.{Laid, laid, nextValue, rowsAt, valuesNext, columnOf, equationAt}
 use Rattle.slopes.specs.Dense.{nextRow, freeOf, addAt, addEntry, clearAt, clearedOf, rowInto, rowsNext, jacobianOf}
 use Rattle.rows.specs.Entries.{Row}
 use Rattle.rows.specs.Kinds.{
   coincidentOf,
-  levelOf,
+  levelKindOf,
   parallelOf,
   perpendicularOf,
   collinearOf,
@@ -64,7 +65,7 @@ module _ {A S K : Type 0} (f : S → A → S) (g : K → List A) (h : S → K �
 module _ (ls : List Line) (at : PointNo → Vec2) where
   rows-of : (e : Equation) → length (rowsOfEquation ls at e) ≡ rowsOf e
   unfolding
-      rowsOf rowsOfEquation coincidentOf levelOf parallelOf perpendicularOf collinearOf equalOf distanceOf axisDistanceOf lengthOf pointLineOf
+      rowsOf rowsOfEquation coincidentOf levelKindOf parallelOf perpendicularOf collinearOf equalOf distanceOf axisDistanceOf lengthOf pointLineOf
       arcEndsOf radiusKindOf lineCircleOf circleCircleOf lineArcAtOf arcArcAtOf midpointOf arcMidpointOf symmetricOf equalRadiusOf
   rows-of (Equation.Coincident a b) = refl
   rows-of (Equation.Level a b axis) = refl
