@@ -16,7 +16,6 @@ use Rattle.rows.specs.Entries.{Row, valuesOf}
 use Rattle.rows.specs.Kinds.{rowsOfEquation}
 use Rattle.rows.specs.Located.{atOf}
 use Rattle.rows.specs.declared.answer.Values.{Values}
-use Rattle.rows.proofs.Bounded.{Bounded}
 
 module _ (row : ℕ) (r : List Float) where
   pub no-values : (rs : List Row) (v : Values) → v ≡ valuesOf rs → v .count ≡ 0 → laid row r ≡ fold nextValue (laid row r) rs
@@ -32,13 +31,13 @@ module _ (row : ℕ) (r : List Float) where
   one-value (a ∷ b ∷ rs) v r′ e h q =
       absurd (let z : suc (suc (length rs)) ≡ 1 = sym (ap (λ (w : Values). w .count) e) ∙ h in omega arith)
 
-  pub two-values : (rs : List Row) (v : Values) (r′ r″ : List Float) → Bounded rs → v ≡ valuesOf rs → (v .count ≡ 0 → ⊥) → (v .count ≡ 1 → ⊥)
+  pub two-values : (rs : List Row) (v : Values) (r′ r″ : List Float) → length rs ≤ 2 → v ≡ valuesOf rs → (v .count ≡ 0 → ⊥) → (v .count ≡ 1 → ⊥)
       → r′ ≡ set r row (v .first) → r″ ≡ set r′ (row + 1) (v .second) → laid (row + 1 + 1) r″ ≡ fold nextValue (laid row r) rs
   unfolding fold valuesOf nextValue
   two-values [] v r′ r″ b e h k q p = absurd (h (ap (λ (w : Values). w .count) e))
   two-values (a ∷ []) v r′ r″ b e h k q p = absurd (k (ap (λ (w : Values). w .count) e))
   two-values (a ∷ c ∷ []) v r′ r″ b e h k q p = rw (p, q, e)
-  two-values (a ∷ c ∷ d ∷ rs) v r′ r″ b e h k q p = absurd (let z = b .rows in omega arith)
+  two-values (a ∷ c ∷ d ∷ rs) v r′ r″ b e h k q p = absurd (omega (arith, b))
 
 -- ---- a turn of the loop over the chosen equations
 

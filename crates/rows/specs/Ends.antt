@@ -3,8 +3,9 @@ use Prim.Native.Nat.{ℕ}
 use mathlib.Core.Bool.{cond}
 use mathlib.Core.List.{List, []}
 use lib.Dec.{ltb}
+use lib.ListN.{getD}
 use Rattle.plane.specs.declared.Vec2.{Vec2}
-use Rattle.sketch.specs.Involved.{noLine, lineAt}
+use Rattle.sketch.specs.Involved.{noLine, lineAt, linesNamed}
 use Rattle.sketch.specs.declared.Equation.{Equation}
 use Rattle.sketch.specs.declared.Line.{Line}
 use Rattle.sketch.specs.declared.LineNo.{LineNo}
@@ -47,27 +48,7 @@ abbrev pub neitherOf : LineNos
 neitherOf = onlyOf (record { 0 = 0 })
 
 abbrev pub lineNosOf : Equation → LineNos
-lineNosOf (Equation.Coincident a b) = neitherOf
-lineNosOf (Equation.Level a b axis) = neitherOf
-lineNosOf (Equation.Parallel i j) = bothOf i j
-lineNosOf (Equation.Perpendicular i j) = bothOf i j
-lineNosOf (Equation.Collinear i j) = bothOf i j
-lineNosOf (Equation.Equal i j) = bothOf i j
-lineNosOf Equation.Held = neitherOf
-lineNosOf (Equation.Distance a b value) = neitherOf
-lineNosOf (Equation.AxisDistance a b axis value side) = neitherOf
-lineNosOf (Equation.Length l value) = onlyOf l
-lineNosOf (Equation.PointLine p l value side) = onlyOf l
-lineNosOf (Equation.ArcEnds c f t) = neitherOf
-lineNosOf (Equation.Radius c f value) = neitherOf
-lineNosOf (Equation.LineCircle l c rad side) = onlyOf l
-lineNosOf (Equation.CircleCircle c₁ r₁ c₂ r₂ contact) = neitherOf
-lineNosOf (Equation.LineArcAt l c p) = onlyOf l
-lineNosOf (Equation.ArcArcAt c₁ c₂ p) = neitherOf
-lineNosOf (Equation.Midpoint p l) = onlyOf l
-lineNosOf (Equation.ArcMidpoint p c f t) = neitherOf
-lineNosOf (Equation.Symmetric p q l) = onlyOf l
-lineNosOf (Equation.EqualRadius c₁ f₁ c₂ f₂) = neitherOf
+lineNosOf e = bothOf (getD (linesNamed e) 0 (record { 0 = 0 })) (getD (linesNamed e) 1 (record { 0 = 0 }))
 
 -- ---- and their ends: as the build has them, and as the code finds them among 40 lines
 

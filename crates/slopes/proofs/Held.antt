@@ -15,7 +15,6 @@ use Rattle.rows.specs.Column.{Laid, laid, equationAt, rowsAt}
 use Rattle.rows.specs.Entries.{Row}
 use Rattle.rows.specs.Kinds.{rowsOfEquation}
 use Rattle.rows.specs.Located.{atOf}
-use Rattle.rows.proofs.Bounded.{Bounded}
 use Rattle.rows.proofs.Held.{past-is-held}
 use Rattle.slopes.specs.Arms.{rowsFrom, rowsInto}
 use Rattle.slopes.specs.Dense.{nextRow, rowInto, rowsNext}
@@ -58,9 +57,9 @@ module _ (P C : List ℕ) (n : ℕ) where
     unfolding after fold
     rows-laid = ap (after row) h ∙ rows-from row (row * n) j rs refl
 
-    pub few : Bounded rs → m ≤ 2
+    pub few : length rs ≤ 2 → m ≤ 2
     unfolding count
-    few b = let e : m ≡ length rs = ap count h in rw e (b .rows)
+    few b = let e : m ≡ length rs = ap count h in rw e b
 
 -- ---- a turn of the loop over the chosen equations
 
