@@ -9,7 +9,7 @@ use lib.ListN.{length, replicate}
 use Rattle.floats.specs.Ops.{zero⁺}
 use Rattle.members.specs.Lists.{numbersOf}
 use Rattle.members.specs.declared.Equations.{Equations}
-use Rattle.rounds.specs.Holds.{fit-holds}
+use Rattle.rounds.proofs.Holding.{fit-holds}
 use Rattle.rounds.specs.Problem.{valuesAt}
 use Rattle.rounds.specs.Promise.{convergedBy}
 use Rattle.rounds.specs.Solve.{Outcome, converged, failed, within}
@@ -21,7 +21,7 @@ use Rattle.fit.specs.declared.Frame.{Frame}
 
 module _ (b : Build) (f : Frame) (chosen : Equations) where
   -- coordinates at the head of the answer's 80 places, at which the chosen equations hold
-  pub record Holds (t : Fitted) : Type 0 where
+  pub record ShowsFit (t : Fitted) : Type 0 where
     pub x : List Float
     pub shown : t .x ≡ padded (length (startIn b f)) x
     pub holds : within (valuesAt (b .equations) (b .lines) (f .places) (numbersOf (chosen .0)) x) ≡ true
@@ -33,7 +33,7 @@ module _ (b : Build) (f : Frame) (chosen : Equations) where
   bare false n (failed i t) h = refl
 
   held : (s : Bool) (o : Outcome) → outcomeIn b f (numbersOf (chosen .0)) ≡ o
-      → convergedBy (cond s refusal (fittedBy (length (startIn b f)) o) .solved .ending) ≡ true → Holds (cond s refusal (fittedBy (length (startIn b f)) o))
+      → convergedBy (cond s refusal (fittedBy (length (startIn b f)) o) .solved .ending) ≡ true → ShowsFit (cond s refusal (fittedBy (length (startIn b f)) o))
   held true o e h = absurd (true≢false (sym h))
   held false (failed i t) e h = absurd (true≢false (sym h))
   held false (converged x i t) e h = record { x = x; shown = refl; holds = fit-holds _ _ (startIn b f) x i t e }
@@ -44,7 +44,7 @@ module _ (b : Build) (f : Frame) (chosen : Equations) where
         subst (λ (u : Fitted). convergedBy (u .solved .ending) ≡ false → u .x ≡ replicate 80 zero⁺) (sym (made .answer))
         (bare (short p q r) (length (startIn b f)) (outcomeIn b f (numbersOf (chosen .0))))
 
-    pub coordinates-hold : convergedBy (t .solved .ending) ≡ true → Holds t
+    pub coordinates-hold : convergedBy (t .solved .ending) ≡ true → ShowsFit t
     coordinates-hold =
-        subst (λ (u : Fitted). convergedBy (u .solved .ending) ≡ true → Holds u) (sym (made .answer))
+        subst (λ (u : Fitted). convergedBy (u .solved .ending) ≡ true → ShowsFit u) (sym (made .answer))
         (held (short p q r) (outcomeIn b f (numbersOf (chosen .0))) refl)

@@ -7,8 +7,10 @@ use native.Mathlib.Omega.{arith}
 use lib.Ieee.{Float}
 use lib.ListN.{length, getD, drop, set, replicate, length-take}
 use lib.Seq.{getD-take}
-use Rattle.loops.specs.Turns.{fold, fold-next, fold-done}
-use Rattle.members.specs.Lists.{Lists, numbersOf, numbers-are}
+use Rattle.loops.specs.Turns.{fold}
+use Rattle.loops.proofs.Turning.{fold-next, fold-done}
+use Rattle.members.specs.Lists.{Lists, numbersOf}
+use Rattle.members.proofs.Readings.{numbers-are}
 use Rattle.members.specs.declared.Equations.{Equations}
 use Rattle.members.specs.declared.Listed.{Listed}
 use Rattle.rounds.specs.Promise.{zeroed, convergedBy}

@@ -10,7 +10,7 @@ use Rattle.floats.specs.Ops.{1e-12}
 use Rattle.groups.specs.Chains.{equationsIn}
 use Rattle.groups.specs.declared.Grouping.{Grouping}
 use Rattle.members.specs.Movable.{indicesOf}
-use Rattle.rounds.specs.Holds.{fit-holds}
+use Rattle.rounds.proofs.Holding.{fit-holds}
 use Rattle.rounds.specs.Problem.{rowCount, jacobianAt, problemOf, rowsFor, valuesAt}
 use Rattle.rows.specs.Column.{rowsAt}
 use Rattle.rows.specs.Entries.{Row}

@@ -10,7 +10,8 @@ use lib.Ieee.{Float}
 use lib.ListN.{length, getD, take, drop, replicate, length-take, length-append, length-drop}
 use lib.Seq.{getD-take, length-take-le, take-at, drop-at, drop-drop, drop-append-add}
 use Rattle.floats.specs.Ops.{zero⁺}
-use Rattle.loops.specs.Turns.{fold, fold-next, fold-done}
+use Rattle.loops.specs.Turns.{fold}
+use Rattle.loops.proofs.Turning.{fold-next, fold-done}
 use Rattle.members.specs.Lists.{numbersOf}
 use Rattle.members.specs.Movable.{indicesOf}
 use Rattle.members.specs.declared.Listed.{Listed}
@@ -18,17 +19,17 @@ use Rattle.nullspace.specs.Promise.{Spans, checked, decomposedOf, vectorsOf}
 use Rattle.nullspace.specs.Steps.{rankOf}
 use Rattle.nullspace.specs.declared.NullSpace.{NullSpace}
 use Rattle.rounds.proofs.Begins.{fits-in}
-use Rattle.rounds.specs.Column.{table-is, jacobian-long, rows-few}
+use Rattle.rounds.proofs.Column.{table-is, jacobian-long, rows-few}
 use Rattle.rounds.specs.Problem.{moreRows, rowCount, jacobianAt}
 use Rattle.rounds.specs.Promise.{zeroed}
-use Rattle.rows.proofs.Held.{held}
+use Rattle.rows.proofs.Held.{past-is-held}
 use Rattle.rows.specs.Column.{Laid, laid, equationAt}
 use Rattle.sketch.specs.Rows.{rowsOf}
 use Rattle.sketch.specs.declared.Active.{Active}
 use Rattle.sketch.specs.declared.Build.{Build}
 use Rattle.sketch.specs.declared.Equation.{Equation}
 use Rattle.slopes.specs.Dense.{jacobianOf}
-use Rattle.fit.specs.Fits.{gradientsOf, freedomOf, overRows, short, meaningOf, Lays, Ranks, freedBy, Frees}
+use Rattle.fit.specs.Fits.{gradientsOf, freedomOf, frameOverRows, short, meaningOf, Lays, Ranks, freedBy, Frees}
 use Rattle.fit.specs.declared.Degrees.{Degrees}
 use Rattle.fit.specs.declared.Frame.{Frame}
 
@@ -142,7 +143,7 @@ module _ (b : Build) (f : Frame) (x p q r : List Float) where
 
   pub refused-rows : (n : ℕ) → short p q r ≡ false → n ≡ rowCount (b .equations) (numbersOf (f .equations .0)) → 64 < n → Frees b f x p q r p q r Degrees.TooManyRows
   refused-rows n h e k =
-      let o : overRows b f ≡ true = rw (← e) (lt-ltb 64 n k) in
+      let o : frameOverRows b f ≡ true = rw (← e) (lt-ltb 64 n k) in
       record { answer = rw (h, o); meaning = rw (h, o); jacobian = rw (h, o); work = rw (h, o); basis = rw (h, o) }
 
   module _ (nf rows : ℕ) (p₁ p₂ q₂ r₂ : List Float) (s : NullSpace) (free : nf ≡ length (indicesOf (f .free))) (t : Lays b f nf x p p₁ rows)
@@ -159,7 +160,7 @@ module _ (b : Build) (f : Frame) (x p q r : List Float) where
 
     pub frees : (d : Degrees) → d ≡ freedBy nf s → short p q r ≡ false → rowCount (b .equations) (numbersOf (f .equations .0)) ≤ 64 → Frees b f x p q r p₂ q₂ r₂ d
     frees d e h k =
-        let o : overRows b f ≡ false = le-ltb 64 _ k in
+        let o : frameOverRows b f ≡ false = le-ltb 64 _ k in
         let is : d ≡ Degrees.Of (freedomOf b f x) = e ∙ ap (freedBy nf) (u .answer) ∙ ap Degrees.Of freedom-is in
         record {
           answer = rw (h, o) is;
@@ -181,7 +182,7 @@ module _ (es : List Active) (items : List ℕ) (n i rows : ℕ) (room : n ≤ le
   -- past the last equation there is `Held`
   pub no-row : length es ≤ getD items i 0 → fold (moreRows es) rows (drop (i + 1) (take n items)) ≡ R
   unfolding rowsOf
-  no-row past = (rw add-zero at (more-rows 0 Equation.Held refl (held es _ past)))
+  no-row past = (rw add-zero at (more-rows 0 Equation.Held refl (past-is-held es _ past)))
 
 pub counted : (es : List Active) (l : Listed) (n i rows : ℕ) → n ≡ length (numbersOf l) → n ≤ i
     → fold (moreRows es) rows (drop i (take n (l .items))) ≡ fold (moreRows es) 0 (take n (l .items)) → rows ≡ rowCount es (numbersOf l)

@@ -12,14 +12,14 @@ use Rattle.floats.specs.Ops.{zero⁺}
 use Rattle.groups.proofs.Counted.{taken}
 use Rattle.members.specs.Lists.{numbersOf}
 use Rattle.members.specs.Movable.{pointsAt, indicesOf}
-use Rattle.members.specs.Scale.{start-length}
+use Rattle.members.proofs.Readings.{start-length}
 use Rattle.members.specs.Scale as scale
 use Rattle.fit.proofs.Begun.{begun, fewer}
 use Rattle.members.specs.declared.Equations.{Equations}
 use Rattle.rounds.specs.Promise.{Solves, outcomeOf, answeredBy, coordinatesOf, zeroed, saying, tooMany}
 use Rattle.rounds.specs.Problem.{rowCount, valuesAt}
 use Rattle.rounds.specs.Solve.{Outcome, converged, failed}
-use Rattle.rounds.specs.declared.Ending.the-variants.{TooShort}
+use Rattle.rounds.specs.declared.FitEnding.the-variants.{TooShort}
 use Rattle.rounds.specs.declared.Solved.{Solved}
 use Rattle.sketch.specs.declared.Active.{Active}
 use Rattle.sketch.specs.declared.Build.{Build}

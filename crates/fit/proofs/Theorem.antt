@@ -35,7 +35,7 @@ use Rattle.rows.specs.Kinds.{
   rowsOfEquation,
 }
 use Rattle.rows.specs.Located.{atOf}
-use Rattle.sketch.specs.Involved.{lineAt}
+use Rattle.sketch.specs.Involved.{lineAt, linesNamed}
 use Rattle.sketch.specs.Rows.{rowsOf}
 use Rattle.sketch.specs.declared.Build.{Build}
 use Rattle.sketch.specs.declared.Equation.{Equation}
@@ -45,7 +45,7 @@ use Rattle.solver.specs.Sums.{maxAbsOf}
 use Rattle.fit.specs.Fits.{outcomeIn, worstOf, gradientsOf, freedomOf, converges, suspect, mark, suspectsOf}
 use Rattle.fit.specs.Frames.{frameOf, startIn}
 use Rattle.fit.specs.Groups.{lowestOf, freedomIn, frameIn}
-use Rattle.fit.specs.Own.{pointsOfGroup, equationsOfGroup, linesNamed, SharesGroup, FitsAlike}
+use Rattle.fit.specs.Own.{pointsOfGroup, equationsOfGroup, SharesGroup, FitsAlike}
 use Rattle.fit.specs.declared.Frame.{Frame}
 use Rattle.fit.proofs.Sets.{points-back, equations-back}
 

@@ -18,7 +18,7 @@ use Rattle.members.specs.Movable.{nowhere}
 use Rattle.rows.specs.Column.{equationAt}
 use Rattle.sketch.specs.Blank.{origin, pointIn, blankPoint, blankActive, sample}
 use Rattle.sketch.specs.Check.{checkOf}
-use Rattle.sketch.specs.Involved.{lineAt}
+use Rattle.sketch.specs.Involved.{lineAt, linesNamed}
 use Rattle.sketch.specs.Rows.{moreRows, rowsOf}
 use Rattle.sketch.specs.declared.Active.{Active}
 use Rattle.sketch.specs.declared.Build.{Build}
@@ -27,7 +27,7 @@ use Rattle.sketch.specs.declared.Equation.{Equation}
 use Rattle.sketch.specs.declared.Line.{Line}
 use Rattle.sketch.specs.declared.LineNo.{LineNo}
 use Rattle.sketch.specs.declared.State.the-variants.{Kept}
-use Rattle.fit.specs.Own.{pointsOfGroup, equationsOfGroup, linesNamed, SharesGroup}
+use Rattle.fit.specs.Own.{pointsOfGroup, equationsOfGroup, SharesGroup}
 
 abbrev line : ℕ → ℕ → Line
 line p q = record { from = record { 0 = p }; to = record { 0 = q } }

@@ -20,8 +20,8 @@ use Rattle.nullspace.specs.declared.NullSpace.{NullSpace}
 use Rattle.rounds.specs.Problem.{rowCount, valuesAt, jacobianAt}
 use Rattle.rounds.specs.Promise.{outcomeOf, zeroed, saying}
 use Rattle.rounds.specs.Solve.{Outcome, converged, failed}
-use Rattle.rounds.specs.declared.Ending.{Ending}
-use Rattle.rounds.specs.declared.Ending.the-variants.{Converged, Failed, TooMany, TooShort}
+use Rattle.rounds.specs.declared.FitEnding.{FitEnding}
+use Rattle.rounds.specs.declared.FitEnding.the-variants.{Converged, Failed, TooMany, TooShort}
 use Rattle.rounds.specs.declared.Solved.{Solved}
 use Rattle.sketch.specs.declared.Build.{Build}
 use Rattle.solver.specs.Sums.{maxAbsOf}
@@ -45,7 +45,7 @@ padded n x = x ++ replicate (80 - n) zero⁺
 abbrev pub shownOf : Solved → List Float → Fitted
 shownOf s x = record { solved = s; x = shownBy (s .ending) }
   where
-    shownBy : Ending → List Float
+    shownBy : FitEnding → List Float
     shownBy Converged = x
     shownBy Failed = replicate 80 zero⁺
     shownBy TooMany = replicate 80 zero⁺
@@ -89,8 +89,8 @@ freedomOf b f x =
     let n = length (indicesOf (f .free)) in
     n - rankOf (decomposedOf (rowCount (b .equations) (numbersOf (f .equations .0))) n (gradientsOf b f x))
 
-abbrev pub overRows : Build → Frame → Bool
-overRows b f = ltb 64 (rowCount (b .equations) (numbersOf (f .equations .0)))
+abbrev pub frameOverRows : Build → Frame → Bool
+frameOverRows b f = ltb 64 (rowCount (b .equations) (numbersOf (f .equations .0)))
 
 -- 01's numbers for the call, in 01's order: 9, then 6
 abbrev pub meaningOf : Degrees → Meaning ℕ
@@ -99,7 +99,7 @@ meaningOf Degrees.TooShort = refused tooShort
 meaningOf Degrees.TooManyRows = refused tooManyRows
 
 abbrev pub checked : {A : Type 0} → Build → Frame → List Float → List Float → List Float → A → A → A → A
-checked b f p q r nine six done = cond (short p q r) nine (cond (overRows b f) six done)
+checked b f p q r nine six done = cond (short p q r) nine (cond (frameOverRows b f) six done)
 
 pub record Frees (b : Build) (f : Frame) (x p q r p′ q′ r′ : List Float) (t : Degrees) : Type 0 where
   pub answer : t ≡ checked b f p q r Degrees.TooShort Degrees.TooManyRows (Degrees.Of (freedomOf b f x))

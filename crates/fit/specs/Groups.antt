@@ -17,7 +17,7 @@ use Rattle.rows.specs.Column.{rowsAt}
 use Rattle.rows.specs.Entries.{Row}
 use Rattle.sketch.specs.declared.Build.{Build}
 use Rattle.solver.specs.Sums.{AllWithin}
-use Rattle.fit.specs.Fits.{outcomeIn, worstOf, freedomOf, overRows, converges, suspectsOf}
+use Rattle.fit.specs.Fits.{outcomeIn, worstOf, freedomOf, frameOverRows, converges, suspectsOf}
 use Rattle.fit.specs.Frames.{frameOf}
 use Rattle.fit.specs.declared.Frame.{Frame}
 
@@ -28,7 +28,7 @@ lowestOf f = getD (f .points .0 .items) 0 0
 -- the freedom of a group; with more than 64 rows it would count none, and no group of a build that passes the check has more
 -- (crates/job/proofs/Rowed.antt)
 abbrev pub freedomIn : Build → Frame → List Float → ℕ
-freedomIn b f x = cond (overRows b f) 0 (freedomOf b f x)
+freedomIn b f x = cond (frameOverRows b f) 0 (freedomOf b f x)
 
 module _ (b : Build) (gr : Grouping) (g : ℕ) where
   -- group g set out for its fit

@@ -2,7 +2,7 @@
 -- Groups.antt, each given the whole build and the group's number, of which a job's answer is made, and proved of any two builds, whether or not they pass the checks before
 -- the fit: `own-part-alone` (proofs/Theorem.antt). specs/Examples.antt has two builds that share a group and little else.
 use Prim.Native.Nat.{ℕ}
-use mathlib.Core.List.{List, [], _∷_, List·Memᴰ}
+use mathlib.Core.List.{List, List·Memᴰ}
 use mathlib.Core.Path.{_≡_}
 use lib.Ieee.{Float}
 use lib.ListN.{getD}
@@ -10,9 +10,8 @@ use Rattle.groups.specs.Chains.{pointsIn, equationsIn}
 use Rattle.groups.specs.Listed.{groupingOf}
 use Rattle.members.specs.Movable.{nowhere}
 use Rattle.rows.specs.Column.{equationAt}
-use Rattle.sketch.specs.Involved.{lineAt}
+use Rattle.sketch.specs.Involved.{lineAt, linesNamed}
 use Rattle.sketch.specs.declared.Build.{Build}
-use Rattle.sketch.specs.declared.Equation.{Equation}
 use Rattle.sketch.specs.declared.LineNo.{LineNo}
 use Rattle.fit.specs.Groups.{outcomeAt, freedomAt, worstAt, suspectsAt, lowestAt}
 
@@ -26,30 +25,6 @@ abbrev pub equationsOfGroup : Build → ℕ → List ℕ
 equationsOfGroup b g = equationsIn (groupingOf b) g
 
 -- ---- what two builds share
-
--- equations.rs, `Eq`: the lines that an equation names
-abbrev pub linesNamed : Equation → List LineNo
-linesNamed (Equation.Coincident a b) = []
-linesNamed (Equation.Level a b axis) = []
-linesNamed (Equation.Parallel i j) = i ∷ j ∷ []
-linesNamed (Equation.Perpendicular i j) = i ∷ j ∷ []
-linesNamed (Equation.Collinear i j) = i ∷ j ∷ []
-linesNamed (Equation.Equal i j) = i ∷ j ∷ []
-linesNamed Equation.Held = []
-linesNamed (Equation.Distance a b value) = []
-linesNamed (Equation.AxisDistance a b axis value side) = []
-linesNamed (Equation.Length l value) = l ∷ []
-linesNamed (Equation.PointLine p l value side) = l ∷ []
-linesNamed (Equation.ArcEnds c f t) = []
-linesNamed (Equation.Radius c f value) = []
-linesNamed (Equation.LineCircle l c rad side) = l ∷ []
-linesNamed (Equation.CircleCircle c₁ r₁ c₂ r₂ contact) = []
-linesNamed (Equation.LineArcAt l c p) = l ∷ []
-linesNamed (Equation.ArcArcAt c₁ c₂ p) = []
-linesNamed (Equation.Midpoint p l) = l ∷ []
-linesNamed (Equation.ArcMidpoint p c f t) = []
-linesNamed (Equation.Symmetric p q l) = l ∷ []
-linesNamed (Equation.EqualRadius c₁ f₁ c₂ f₂) = []
 
 -- Group g of b is group g′ of b′: its points and its equations have the same numbers in both, and under these numbers stand the same
 -- points, the same equations and the same ends of the lines that these equations name. Nothing is said of anything else in the two builds.

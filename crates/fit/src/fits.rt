@@ -5,7 +5,7 @@ use crate::Fitted;
 use crate::Frame;
 use loops::smaller;
 use members::Equations;
-use rounds::Ending;
+use rounds::FitEnding;
 use rounds::Solved;
 use sketch::Build;
 
@@ -15,16 +15,16 @@ fn shown(s: Solved, x: [f64; 80]) -> Fitted
 {
     let ending = s.ending;
     match ending {
-        Ending::Converged => Fitted { solved: s, x },
-        Ending::Failed => Fitted {
+        FitEnding::Converged => Fitted { solved: s, x },
+        FitEnding::Failed => Fitted {
             solved: s,
             x: [0.0; 80],
         },
-        Ending::TooMany => Fitted {
+        FitEnding::TooMany => Fitted {
             solved: s,
             x: [0.0; 80],
         },
-        Ending::TooShort => Fitted {
+        FitEnding::TooShort => Fitted {
             solved: s,
             x: [0.0; 80],
         },

@@ -21,7 +21,7 @@ pub(crate) fn numbers(l: Listed) -> usize
     smaller(l.count, 40)
 }
 
-fn held(f: Coordinates) -> usize
+fn free_count(f: Coordinates) -> usize
     ensures { λ n. ⌜ (n ≡ length (indicesOf f)) × (n ≤ 80) ⌝ }
 {
     smaller(f.count, 80)
@@ -114,7 +114,7 @@ pub fn freedom(
         return Degrees::TooManyRows;
     }
     let free = f.free;
-    let nf = held(free);
+    let nf = free_count(free);
     let rows = lay(b, f, nf, x, p);
     freed(nf, rank(rows, nf, p, q, r))
 }

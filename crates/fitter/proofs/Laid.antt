@@ -6,8 +6,8 @@ use native.Mathlib.Omega.{arith}
 use lib.Ieee.{Float}
 use lib.ListN.{length, take}
 use Rattle.io.specs.Counts.{Counts}
-use Rattle.loops.specs.Parts.{front}
-use Rattle.reply.specs.Promise.{written-first}
+use Rattle.loops.proofs.Parts.{front}
+use Rattle.reply.proofs.Written.{written-first}
 use Rattle.reply.proofs.Short.{short}
 use Rattle.run.specs.Promise.{Runs, replyBuild, replyBy, replyTo}
 use Rattle.sketch.specs.declared.Build.{Build}

@@ -13,13 +13,13 @@ use Rattle.sketch.specs.declared.Build.{Build}
 use Rattle.sketch.specs.declared.Ending.{Ending}
 use Rattle.spelling.proofs.Steps.{Here, never}
 use Rattle.spelling.specs.declared.Cursor.{Cursor}
-use Rattle.text.specs.Given.{one-exactly, two-exactly, three-exactly, read-exactly}
+use Rattle.text.proofs.Given.{reads-exactly}
 use Rattle.text.specs.Reader.{countsAt, overCounts, buildAt, refusedWith, judged, tooLong, badCounts, badRest, readOf}
 use Rattle.text.specs.declared.CountsRead.{CountsRead}
 use Rattle.text.specs.declared.Outcome.{Outcome}
 use Rattle.text.specs.declared.Reading.{Reading}
 use Rattle.grammar.specs.Form.{Bounded, Writes, Exceeds, ReadsForm, OneReading}
-use Rattle.grammar.specs.Job.{Counts, CountsFit, countsOf, Job, Fits}
+use Rattle.grammar.specs.Job.{Counts, CountsFit, countsOf, Job, Writable}
 use Rattle.grammar.specs.Meaning.{buildOf}
 use Rattle.grammar.specs.Printed.{countsText, restText, jobText}
 use Rattle.grammar.proofs.JobForm.{readCounts, nextCounts, counts-reads, RestFits, readRest, nextRest, rest-reads, build-is}
@@ -68,7 +68,7 @@ both true true h = (refl, refl)
 both true false h = absurd (never _ h refl)
 both false b h = absurd (never _ h refl)
 
-rest-fits : (j : Job) → Fits j → RestFits (countsOf j) j
+rest-fits : (j : Job) → Writable j → RestFits (countsOf j) j
 rest-fits j h = record {
   centre = h .centre;
   size = h .size;
@@ -81,7 +81,7 @@ rest-fits j h = record {
 counts-of : (n : Counts) (j : Job) → RestFits n j → countsOf j ≡ n
 counts-of n j h = λ t. record { points = h .points .0 t; lines = h .lines .0 t; equations = h .equations .0 t; measures = h .measures .0 t }
 
-fits-of : (n : Counts) (j : Job) → CountsFit n → RestFits n j → Fits j
+fits-of : (n : Counts) (j : Job) → CountsFit n → RestFits n j → Writable j
 fits-of n j p h = record {
   centre = h .centre;
   size = h .size;
@@ -98,7 +98,7 @@ module _ (s : List ℕ) where
   counts-forward n t p e = counts-reads .forward s start n t p refl (subst (λ (l : List ℕ). Here s start l) e (begin s))
 
   -- and a job's text with this job
-  job-forward : (j : Job) → Fits j → s ≡ jobText j
+  job-forward : (j : Job) → Writable j → s ≡ jobText j
       → (readCounts s start ≡ countsOf j) × (nextCounts s start .ok ≡ true) × (readRest (readCounts s start) s (nextCounts s start) ≡ j) × Here s (nextRest (readCounts s start) s (nextCounts s start)) []
   job-forward j p e =
       let c = nextCounts s start in
@@ -112,7 +112,7 @@ module _ (s : List ℕ) where
   counts-backward h = counts-reads .backward s start s (begin s) h
 
   job-backward : let n = readCounts s start in let c = nextCounts s start in
-      c .ok ≡ true → nextRest n s c .ok ≡ true → nextRest n s c .at ≡ length s → Fits (readRest n s c) × (countsOf (readRest n s c) ≡ n) × (s ≡ jobText (readRest n s c))
+      c .ok ≡ true → nextRest n s c .ok ≡ true → nextRest n s c .at ≡ length s → Writable (readRest n s c) × (countsOf (readRest n s c) ≡ n) × (s ≡ jobText (readRest n s c))
   job-backward h k e =
       let n = readCounts s start in
       let c = nextCounts s start in
@@ -237,30 +237,30 @@ module _ (s : List ℕ) where
   not-long h = le-ltb 16384 (length s) h
 
   one : readOf s ≡ refusedWith Ending.TooLong ↔ 16384 < length s
-  one = (λ h. ltb-true 16384 (length s) (one-exactly s .0 (ap (λ r. r .outcome) h)), λ h. refused Ending.TooLong (one-exactly s .1 (lt-ltb 16384 (length s) h)))
+  one = (λ h. ltb-true 16384 (length s) (reads-exactly s .one .0 (ap (λ r. r .outcome) h)), λ h. refused Ending.TooLong (reads-exactly s .one .1 (lt-ltb 16384 (length s) h)))
 
   three : readOf s ≡ refusedWith Ending.TooMany ↔ (length s ≤ 16384) × Exceeds s
   three = (
-    λ h. let e = three-exactly s .0 (ap (λ r. r .outcome) h) in (long (e .0), exceeds (e .1, e .2)),
-    λ h. let e = exceeded (h .1) in refused Ending.TooMany (three-exactly s .1 (not-long (h .0), e .0, e .1)),
+    λ h. let e = reads-exactly s .three .0 (ap (λ r. r .outcome) h) in (long (e .0), exceeds (e .1, e .2)),
+    λ h. let e = exceeded (h .1) in refused Ending.TooMany (reads-exactly s .three .1 (not-long (h .0), e .0, e .1)),
   )
 
   whole : (b : Build) → readOf s ≡ record { outcome = Outcome.Read; build = b } ↔ (length s ≤ 16384) × ((j : Job) × Writes s j × (b ≡ buildOf j))
   whole b = (
     λ h.
-        let e = read-exactly s .0 (ap (λ r. r .outcome) h) in
+        let e = reads-exactly s .whole .0 (ap (λ r. r .outcome) h) in
         let w = writes (e .1) (e .2) (e .3) in
         let m = read-whole (ap (λ r. r .outcome) h) in
         (long (e .0), (read, w .0, sym (ap (λ r. r .build) h) ∙ ap (λ r. r .build) m ∙ w .1)),
     λ h.
         let w = written (h .1 .0) (h .1 .1) in
-        let m = read-whole (read-exactly s .1 (not-long (h .0), w .0, w .1, w .2)) in
+        let m = read-whole (reads-exactly s .whole .1 (not-long (h .0), w .0, w .1, w .2)) in
         m ∙ ap (λ b. record { outcome = Outcome.Read; build = b }) (w .3 ∙ sym (h .1 .2)),
   )
 
   -- neither a text over the bounds nor a job's
   two : readOf s ≡ refusedWith Ending.BadForm ↔ (length s ≤ 16384) × (Exceeds s → ⊥) × ((j : Job) → Writes s j → ⊥)
-  two = (λ h. let l = long (two-exactly s .0 (ap (λ r. r .outcome) h) .0) in (l, λ x. form-many (sym h ∙ three .1 (l, x)), λ j w. form-read (sym h ∙ whole (buildOf j) .1 (l, (j, w, refl)))), back)
+  two = (λ h. let l = long (reads-exactly s .two .0 (ap (λ r. r .outcome) h) .0) in (l, λ x. form-many (sym h ∙ three .1 (l, x)), λ j w. form-read (sym h ∙ whole (buildOf j) .1 (l, (j, w, refl)))), back)
     where
       back : (length s ≤ 16384) × (Exceeds s → ⊥) × ((j : Job) → Writes s j → ⊥) → readOf s ≡ refusedWith Ending.BadForm
       back h =

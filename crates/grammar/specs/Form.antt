@@ -9,7 +9,7 @@ use Rattle.sketch.specs.declared.Ending.{Ending}
 use Rattle.text.specs.Reader.{refusedWith}
 use Rattle.text.specs.declared.Outcome.{Outcome}
 use Rattle.text.specs.declared.Reading.{Reading}
-use Rattle.grammar.specs.Job.{Counts, CountsFit, countsOf, Job, Fits}
+use Rattle.grammar.specs.Job.{Counts, CountsFit, countsOf, Job, Writable}
 use Rattle.grammar.specs.Meaning.{buildOf}
 use Rattle.grammar.specs.Printed.{countsText, jobText}
 
@@ -19,7 +19,7 @@ Bounded n = (n .points ≤ 40) × (n .lines ≤ 40) × (n .equations ≤ 40) × 
 
 -- s is the text of the job j
 pub record Writes (s : List ℕ) (j : Job) : Type 0 where
-  pub fits : Fits j
+  pub fits : Writable j
   pub bounded : Bounded (countsOf j)
   pub text : s ≡ jobText j
 
@@ -40,4 +40,4 @@ pub record ReadsForm (s : List ℕ) (r : Reading) : Type 0 where
 
 -- each text is one job's
 abbrev pub OneReading : Type 0
-OneReading = (j k : Job) → Fits j → Fits k → jobText j ≡ jobText k → j ≡ k
+OneReading = (j k : Job) → Writable j → Writable k → jobText j ≡ jobText k → j ≡ k

@@ -181,7 +181,7 @@ countsOf j = record { points = length (j .points); lines = length (j .lines); eq
 abbrev pub CountsFit : Counts → Type 0
 CountsFit n = Whole (n .points) × Whole (n .lines) × Whole (n .equations) × Whole (n .measures)
 
-pub record Fits (j : Job) : Type 0 where
+pub record Writable (j : Job) : Type 0 where
   pub centre : PlaceFits (j .centre)
   pub size : Pattern (j .size)
   pub points : Each PointFits (j .points)

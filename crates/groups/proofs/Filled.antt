@@ -17,7 +17,8 @@ use Rattle.sketch.specs.declared.Equation.{Equation}
 use Rattle.sketch.specs.declared.Line.{Line}
 use Rattle.sketch.specs.declared.Rad.{Rad}
 use Rattle.sketch.specs.declared.Touched.{Touched}
-use Rattle.groups.specs.Touches.{number, numbersOf, untouched, touchesIn, touchedIn, held}
+use Rattle.groups.specs.Touches.{number, numbersOf, untouched, touchesIn, touchedIn}
+use Rattle.sketch.specs.Blank.{blankActive}
 use Rattle.groups.proofs.Counted.{taken}
 use Rattle.groups.proofs.Forest.{getD-any}
 
@@ -53,7 +54,7 @@ touched-is : (es : List Active) (ls : List Line) (n k : ℕ) (d : Active) (t : T
     → t ≡ touchedOf (involvedOf ls (getD es k d .equation)) → numbersOf t ≡ touchedIn (take n es) ls k
 unfolding touchedIn
 touched-is es ls n k d t h e =
-    rw (e, getD-take n es k held (omega (arith, length-take n es)), getD-any es k held d (omega (arith, length-take n es)))
+    rw (e, getD-take n es k blankActive (omega (arith, length-take n es)), getD-any es k blankActive d (omega (arith, length-take n es)))
     (whole ls (getD es k d .equation))
 
 pub row-at : (ts : List Touched) (k : ℕ) (d : Touched) → k < length ts → numbersOf (getD ts k d) ≡ touchesIn ts k
@@ -87,7 +88,7 @@ module _ (es : List Active) (ls : List Line) (ts : List Touched) (k : ℕ) (d : 
   there : (j : ℕ) → j ≢ k → touchesIn ts j ≡ touchedIn (take k es) ls j → touchesIn (set ts k t) j ≡ touchedIn (take (k + 1) es) ls j
   unfolding touchesIn touchedIn
   there j n r =
-      ap numbersOf (getD-set-other ts k j t untouched n) ∙ r ∙ ap (λ a. map number (involvedOf ls (a .equation))) (others es k j held n)
+      ap numbersOf (getD-set-other ts k j t untouched n) ∙ r ∙ ap (λ a. map number (involvedOf ls (a .equation))) (others es k j blankActive n)
 
   pub touch-next : ((j : ℕ) → touchesIn ts j ≡ touchedIn (take k es) ls j) → (j : ℕ) → touchesIn (set ts k t) j ≡ touchedIn (take (k + 1) es) ls j
   touch-next r j = go (ℕ-discrete j k)

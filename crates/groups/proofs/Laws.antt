@@ -10,7 +10,8 @@ use borrow.Author.Tests.{eq-eqb, ne-eqb, not-true, not-false}
 use lib.Dec.{eqb}
 use lib.ListN.{length, getD, set, drop, length-take}
 use lib.Seq.{getD-take}
-use Rattle.loops.specs.Turns.{upTo, upTo-next, fold}
+use Rattle.loops.specs.Turns.{upTo, fold}
+use Rattle.loops.proofs.Turning.{upTo-next}
 use Rattle.sketch.specs.declared.Touched.{Touched}
 use Rattle.groups.specs.Listed.{pointOf, enteredOf, numberedOf, groupOf, listEquation, listEquations, listPoint, listPoints, groupsOf}
 use Rattle.groups.specs.Parents.{up, Falls, Gives, halved, rootOf, joinTo, joinAll, joined, alone}
@@ -18,7 +19,7 @@ use Rattle.groups.specs.Tied.{tieAll, tiedOf}
 use Rattle.groups.specs.Touches.{numberAt, numbersOf}
 use Rattle.groups.specs.declared.Listing.{Listing}
 use Rattle.groups.proofs.Forest.{getD-any, root-next, root-done, root-kept, root-is, rt-low, join-falls, halved-falls, halved-up}
-use Rattle.loops.specs.Keeps.{upTo-keeps}
+use Rattle.loops.proofs.Keeps.{upTo-keeps}
 
 -- a turn of `root`: u and a are x's parent, b is a's, v is x's parent after the store
 module _ (ps ps′ : List ℕ) (x u a b v : ℕ) (f : Falls ps) (n : u ≢ x) (e : u ≡ up ps x) (i : a ≡ up ps x) (j : b ≡ up ps a)

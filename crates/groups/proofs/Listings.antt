@@ -17,7 +17,7 @@ use Rattle.groups.specs.Listed.{nothing, numberedOf, enteredOf, pointOf,
 use Rattle.groups.specs.Parents.{Falls, Gives, rootOf}
 use Rattle.groups.specs.declared.Listing.{Listing}
 use Rattle.groups.proofs.Forest.{rt, rt-low, rt-rt, Kept, kept-refl, kept-trans, root-kept, root-is}
-use Rattle.loops.specs.Keeps.{upTo-keeps}
+use Rattle.loops.proofs.Keeps.{upTo-keeps}
 use Rattle.groups.proofs.Numbers.{leads, Leads, before, lead, lead-tied, lead-not, untied-not, before-zero, before-yes, before-no, before-le}
 use Rattle.groups.proofs.Ties.{tiedAt}
 
@@ -50,17 +50,17 @@ upto P q f e p h = go (ℕ-discrete p q)
     go (no n) = f p (omega arith)
 
 -- the group of an equation that touches the points pts, by the numbers of the roots
-pub numberOf : List ℕ → List ℕ → List ℕ → ℕ
-numberOf ps index [] = 40
-numberOf ps index (o ∷ pts) = getD index (rt ps o) 40
+pub groupNumber : List ℕ → List ℕ → List ℕ → ℕ
+groupNumber ps index [] = 40
+groupNumber ps index (o ∷ pts) = getD index (rt ps o) 40
 
-pub owner : (ps index pts : List ℕ) (p : ℕ) → List·Memᴰ p pts → (o : ℕ) × List·Memᴰ o pts × (numberOf ps index pts ≡ getD index (rt ps o) 40)
-unfolding numberOf
+pub owner : (ps index pts : List ℕ) (p : ℕ) → List·Memᴰ p pts → (o : ℕ) × List·Memᴰ o pts × (groupNumber ps index pts ≡ getD index (rt ps o) 40)
+unfolding groupNumber
 owner ps index [] p m = absurd (List·Memᴰ·not-nil m)
 owner ps index (o ∷ pts) p m = (o, List·Memᴰ·head refl, refl)
 
-pub owned : (ps index pts : List ℕ) → numberOf ps index pts ≢ 40 → (p : ℕ) × List·Memᴰ p pts
-unfolding numberOf
+pub owned : (ps index pts : List ℕ) → groupNumber ps index pts ≢ 40 → (p : ℕ) × List·Memᴰ p pts
+unfolding groupNumber
 owned ps index [] n = absurd (n refl)
 owned ps index (o ∷ pts) n = (o, List·Memᴰ·head refl)
 
@@ -192,7 +192,7 @@ module _ (ps index : List ℕ) (t : ℕ → List ℕ) (n : ℕ) (few : n ≤ 40)
   record Ranged (k : ℕ) (g : Gives (List ℕ)) : Type 0 where
     kept : Kept ps (g .parents)
     sized : length (g .answer) ≡ 40
-    old : (j : ℕ) → j < k → getD (g .answer) j 40 ≡ numberOf ps index (t j)
+    old : (j : ℕ) → j < k → getD (g .answer) j 40 ≡ groupNumber ps index (t j)
     new : (j : ℕ) → k ≤ j → getD (g .answer) j 40 ≡ 40
 
   group-kept : (pts qs : List ℕ) → Kept ps qs → Kept ps (groupOf index pts qs .parents)
@@ -200,8 +200,8 @@ module _ (ps index : List ℕ) (t : ℕ → List ℕ) (n : ℕ) (few : n ≤ 40)
   group-kept [] qs k = k
   group-kept (o ∷ pts) qs k = kept-trans ps qs (rootOf qs o .parents) k (root-kept qs o (k .falls))
 
-  group-is : (pts qs : List ℕ) → Kept ps qs → groupOf index pts qs .answer ≡ numberOf ps index pts
-  unfolding groupOf numberOf
+  group-is : (pts qs : List ℕ) → Kept ps qs → groupOf index pts qs .answer ≡ groupNumber ps index pts
+  unfolding groupOf groupNumber
   group-is [] qs k = refl
   group-is (o ∷ pts) qs k = ap (λ r. getD index r 40) (root-is qs o (k .falls) ∙ k .roots o)
 
@@ -212,7 +212,7 @@ module _ (ps index : List ℕ) (t : ℕ → List ℕ) (n : ℕ) (few : n ≤ 40)
       record {
         kept = group-kept (t k) (g .parents) (d .kept);
         sized = length-set (g .answer) k v ∙ d .sized;
-        old = upto (λ j. getD (set (g .answer) k v) j 40 ≡ numberOf ps index (t j)) k
+        old = upto (λ j. getD (set (g .answer) k v) j 40 ≡ groupNumber ps index (t j)) k
             (λ j l. getD-set-other (g .answer) k j v 40 (omega arith) ∙ d .old j l)
             (getD-set-same (g .answer) k v 40 (rw (d .sized) (omega arith)) ∙ group-is (t k) (g .parents) (d .kept));
         new = λ j l. getD-set-other (g .answer) k j v 40 (omega arith) ∙ d .new j (omega arith);
@@ -228,7 +228,7 @@ module _ (ps index : List ℕ) (t : ℕ → List ℕ) (n : ℕ) (few : n ≤ 40)
     pub equation-sized : length (listEquations index t n qs .answer) ≡ 40
     equation-sized = ranged .sized
 
-    pub equation-old : (j : ℕ) → j < n → getD (listEquations index t n qs .answer) j 40 ≡ numberOf ps index (t j)
+    pub equation-old : (j : ℕ) → j < n → getD (listEquations index t n qs .answer) j 40 ≡ groupNumber ps index (t j)
     equation-old j l = ranged .old j l
 
     pub equation-new : (j : ℕ) → n ≤ j → getD (listEquations index t n qs .answer) j 40 ≡ 40

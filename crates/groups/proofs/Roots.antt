@@ -15,7 +15,7 @@ use Rattle.loops.specs.Turns.{fold}
 use Rattle.groups.specs.Chains.{Touches, Tied, Chain, last, next, Chained}
 use Rattle.groups.specs.Parents.{Falls, joinTo, joinAll, joined, alone}
 use Rattle.groups.proofs.Forest.{rt, rt-at, merged, merged-at, merged-low, join-falls, join-sized, join-roots, alone-own, alone-falls}
-use Rattle.loops.specs.Keeps.{upTo-keeps}
+use Rattle.loops.proofs.Keeps.{upTo-keeps}
 use Rattle.groups.proofs.Links.{Linked, linked-back, linked-on}
 
 -- the larger of two roots under the smaller: both have one root then

@@ -31,7 +31,8 @@ use Rattle.sketch.specs.declared.Rad.{Rad}
 use Rattle.groups.specs.Chains.{Touches, Tied, GroupsAreChains}
 use Rattle.groups.specs.Listed.{groupsOf}
 use Rattle.groups.specs.Tied.{tiedOf}
-use Rattle.groups.specs.Touches.{number, held, touchedIn, touchedBy}
+use Rattle.groups.specs.Touches.{number, touchedIn, touchedBy}
+use Rattle.sketch.specs.Blank.{blankActive}
 use Rattle.groups.proofs.Exactly.{chains}
 use Rattle.groups.proofs.Ties.{tied-all, tied-only}
 
@@ -105,10 +106,10 @@ past : (es : List Active) (ls : List Line) (k p : ℕ) → Touches (touchedIn es
 unfolding touchedIn
 past es ls k p m = go (decLt k (length es)) m
   where
-    go : Dec (k < length es) → List·Memᴰ p (map number (involvedOf ls (getD es k held .equation))) → k < length es
+    go : Dec (k < length es) → List·Memᴰ p (map number (involvedOf ls (getD es k blankActive .equation))) → k < length es
     go (yes h) m = h
     go (no h) m =
-        let e : getD es k held ≡ held = List·getD-eq-default es held (omega arith) in
+        let e : getD es k blankActive ≡ blankActive = List·getD-eq-default es blankActive (omega arith) in
         absurd (List·Memᴰ·not-nil (rw e at m))
 
 module _ (b : Build) (passes : checkOf b ≡ Passes) where
@@ -124,9 +125,9 @@ module _ (b : Build) (passes : checkOf b ≡ Passes) where
   unfolding touchedIn
   inside k p m =
       let found-at = foundActive (b .«point_count») (b .«line_count») in
-      let e = every-at found-at (equationsOf b) k held (found .1) (past (equationsOf b) (b .lines) k p m) in
+      let e = every-at found-at (equationsOf b) k blankActive (found .1) (past (equationsOf b) (b .lines) k p m) in
       small-at (touchedBy b k) p
-      (small (b .«point_count») (b .«line_count») (b .lines) (counts .0) (found .0) (equationFields (getD (equationsOf b) k held .equation)) e)
+      (small (b .«point_count») (b .«line_count») (b .lines) (counts .0) (found .0) (equationFields (getD (equationsOf b) k blankActive .equation)) e)
       m
 
   pub groups-are-chains : GroupsAreChains (touchedBy b) (groupsOf (touchedBy b) (length (equationsOf b)))

@@ -13,7 +13,7 @@ use lib.Seq.{getD-set-same, getD-set-other, set-out}
 use Rattle.loops.specs.Turns.{fold}
 use Rattle.groups.specs.Chains.{Touches, Tied}
 use Rattle.groups.specs.Tied.{tieTo, tieAll, tiedIn, tiedOf}
-use Rattle.loops.specs.Keeps.{upTo-keeps}
+use Rattle.loops.proofs.Keeps.{upTo-keeps}
 
 abbrev pub tiedAt : List Bool → ℕ → Bool
 tiedAt s p = getD s p false

@@ -6,10 +6,10 @@ use Rattle.sketch.specs.Involved.{involvedOf, noPoint, touchedOf}
 use Rattle.sketch.specs.Parts.{equationsOf}
 use Rattle.sketch.specs.declared.Active.{Active}
 use Rattle.sketch.specs.declared.Build.{Build}
-use Rattle.sketch.specs.declared.Equation.{Equation}
 use Rattle.sketch.specs.declared.Line.{Line}
 use Rattle.sketch.specs.declared.PointNo.{PointNo}
 use Rattle.sketch.specs.declared.Touched.{Touched}
+use Rattle.sketch.specs.Blank.{blankActive}
 
 abbrev pub number : PointNo → ℕ
 number p = p .0
@@ -28,13 +28,9 @@ untouched = touchedOf []
 unfoldable pub touchesIn : List Touched → ℕ → List ℕ
 touchesIn ts k = numbersOf (getD ts k untouched)
 
--- what stands past the last equation touches nothing
-abbrev pub held : Active
-held = record { equation = Equation.Held }
-
 -- equation k of the list es
 unfoldable pub touchedIn : List Active → List Line → ℕ → List ℕ
-touchedIn es ls k = map number (involvedOf ls (getD es k held .equation))
+touchedIn es ls k = map number (involvedOf ls (getD es k blankActive .equation))
 
 -- equation k of a build
 abbrev pub touchedBy : Build → ℕ → List ℕ

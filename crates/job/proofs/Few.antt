@@ -6,7 +6,7 @@ use mathlib.Core.Path.{_≡_, refl}
 use native.Mathlib.Nat.{min-eq-left}
 use native.Mathlib.Omega.{arith}
 use lib.ListN.{getD}
-use Rattle.loops.specs.Keeps.{upTo-keeps}
+use Rattle.loops.proofs.Keeps.{upTo-keeps}
 use Rattle.groups.proofs.Laws.{point-count}
 use Rattle.groups.specs.Listed.{nothing, pointOf, listPoint, listPoints, groupsOf, groupingOf}
 use Rattle.sketch.specs.declared.Build.{Build}

@@ -10,10 +10,11 @@ use lib.Dec.{eqb}
 use lib.Ieee.{Float}
 use lib.ListN.{length, getD, length-take}
 use Rattle.groups.proofs.Forest.{getD-any}
-use Rattle.fit.specs.Fits.{Frees, short, freedomOf, overRows}
+use Rattle.fit.specs.Fits.{Frees, short, freedomOf, frameOverRows}
 use Rattle.fit.specs.declared.Degrees.{Degrees}
 use Rattle.fit.specs.declared.Frame.{Frame}
-use Rattle.loops.specs.Turns.{upTo, upTo-next}
+use Rattle.loops.specs.Turns.{upTo}
+use Rattle.loops.proofs.Turning.{upTo-next}
 use Rattle.members.specs.Movable.{fixedOf, nowhere, indicesOf}
 use Rattle.sketch.specs.declared.Build.{Build}
 use Rattle.sketch.specs.declared.Point.{Point}
@@ -36,8 +37,8 @@ module _ (b : Build) (f : Frame) (x p q r p′ q′ r′ : List Float) (t : Degr
     (e : Frees b f x p q r p′ q′ r′ t) (c : n ≡ countOf t) where
   pub freedom-is : n ≡ freedomIn b f x
   freedom-is =
-      let q : t ≡ cond (overRows b f) Degrees.TooManyRows (Degrees.Of (freedomOf b f x)) = e .answer ∙ rw room in
-      c ∙ rw q (counts (overRows b f) (freedomOf b f x))
+      let q : t ≡ cond (frameOverRows b f) Degrees.TooManyRows (Degrees.Of (freedomOf b f x)) = e .answer ∙ rw room in
+      c ∙ rw q (counts (frameOverRows b f) (freedomOf b f x))
 
   less : freedomOf b f x ≤ length (indicesOf (f .free))
   unfolding freedomOf
@@ -46,7 +47,7 @@ module _ (b : Build) (f : Frame) (x p q r p′ q′ r′ : List Float) (t : Degr
   pub freedom-few : length (f .free .items) ≡ 80 → n ≤ 80
   freedom-few l =
       let k : freedomOf b f x ≤ 80 = omega (arith, less, length-take (f .free .count) (f .free .items)) in
-      rw freedom-is (at-most (overRows b f) (freedomOf b f x) k)
+      rw freedom-is (at-most (frameOverRows b f) (freedomOf b f x) k)
 
 pub loose-is : (points : List Point) (of : List ℕ) (d : Point) (v : ℕ) (p : ℕ) (o : Bool) → length points ≡ 40 → length of ≡ 40 → p < 40
     → o ≡ fixedOf (getD points p d) → eqb (getD of p v) 40 && not o ≡ looseIn points of p

@@ -9,7 +9,7 @@ use lib.ListN.{length, take, drop, length-take, length-map, length-drop}
 use lib.Seq.{take-at, drop-at, take-all, drop-drop}
 use Rattle.floats.specs.Lists.{copiedOf}
 use Rattle.level.specs.Level.{levelOf}
-use Rattle.loops.specs.Parts.{tail-part, past-tail}
+use Rattle.loops.proofs.Parts.{tail-part, past-tail}
 use Rattle.measures.specs.Gauges.{gaugedOf, measuredIn}
 use Rattle.sketch.specs.declared.Build.{Build}
 use Rattle.job.specs.Points.{placedIn, levelled, handedOut}

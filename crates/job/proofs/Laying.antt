@@ -5,7 +5,8 @@ use mathlib.Core.Path.{_≡_, sym, _∙_}
 use lib.Ieee.{Float}
 use lib.ListN.{length, getD, length-map}
 use Rattle.groups.proofs.Forest.{getD-any}
-use Rattle.loops.specs.Turns.{upTo, upTo-next}
+use Rattle.loops.specs.Turns.{upTo}
+use Rattle.loops.proofs.Turning.{upTo-next}
 use Rattle.members.specs.Movable.{nowhere}
 use Rattle.members.specs.Scale.{putPoint}
 use Rattle.sketch.specs.declared.Point.{Point}

@@ -5,7 +5,7 @@
 --     Stepping   one group, and the groups one after another
 --     Handing    what is handed out
 --     Numbered   the number of an answer
---     Ending     the answers
+--     Answers    the answers
 --     Few        there are at most 40 groups
 --     Rowed      no group of a build that passes has more than 64 rows
 --     Theorem    each number exactly when its row says
@@ -16,7 +16,7 @@ pub mod Freeing
 pub mod Stepping
 pub mod Handing
 pub mod Numbered
-pub mod Ending
+pub mod Answers
 pub mod Few
 pub mod Rowed
 pub mod Theorem

@@ -13,15 +13,16 @@ use lib.Ieee.{Float}
 use lib.ListN.{length, getD, take, drop, drop-of-length-le, length-take, List·getD-eq-default}
 use lib.Seq.{drop-cons, getD-take}
 use Rattle.fit.proofs.Sets.{equations-back}
-use Rattle.fit.specs.Fits.{freedomOf, overRows}
+use Rattle.fit.specs.Fits.{freedomOf, frameOverRows}
 use Rattle.fit.specs.Groups.{freedomIn, frameIn}
 use Rattle.groups.proofs.Theorem.{groups-are-chains}
 use Rattle.groups.specs.Chains.{Touches, placesFrom, equationsIn}
 use Rattle.groups.specs.Listed.{groupingOf}
-use Rattle.groups.specs.Touches.{number, held, touchedIn}
+use Rattle.groups.specs.Touches.{number, touchedIn}
 use Rattle.loops.specs.Turns.{fold}
 use Rattle.rounds.specs.Problem.{moreRows, rowCount}
-use Rattle.rows.specs.Column.{heldActive, equationAt}
+use Rattle.rows.specs.Column.{equationAt}
+use Rattle.sketch.specs.Blank.{blankActive}
 use Rattle.sketch.specs.Check.{checkOf}
 use Rattle.sketch.proofs.Given.{given-exactly}
 use Rattle.sketch.specs.Involved.{involvedOf}
@@ -39,21 +40,21 @@ unfolding fold rows.moreRows
 grows [] t = le-refl t
 grows (a ∷ l) t = omega (arith, grows l (t + rowsOf (a .equation)))
 
-nothing-held : rowsOf (heldActive .equation) ≡ 0
+nothing-held : rowsOf (blankActive .equation) ≡ 0
 unfolding rowsOf
 nothing-held = refl
 
 module _ (es : List Active) where
   here : (i : ℕ) (t : ℕ) → i < length es → fold rows.moreRows t (drop i es) ≡ fold rows.moreRows (t + rowsOf (equationAt es i)) (drop (suc i) es)
   unfolding fold rows.moreRows
-  here i t h = rw (drop-cons es i heldActive h)
+  here i t h = rw (drop-cons es i blankActive h)
 
   ended : (i : ℕ) (t : ℕ) → length es ≤ i → fold rows.moreRows t (drop i es) ≡ t
   unfolding fold
   ended i t h = rw (drop-of-length-le es h)
 
   no-rows : (i : ℕ) → length es ≤ i → rowsOf (equationAt es i) ≡ 0
-  no-rows i h = ap (λ (a : Active). rowsOf (a .equation)) (List·getD-eq-default es heldActive h) ∙ nothing-held
+  no-rows i h = ap (λ (a : Active). rowsOf (a .equation)) (List·getD-eq-default es blankActive h) ∙ nothing-held
 
   -- what is left of the rows, t so far, is no less with the equation at i than past it
   left : (i : ℕ) (t : ℕ) → fold rows.moreRows (t + rowsOf (equationAt es i)) (drop (suc i) es) ≤ fold rows.moreRows t (drop i es)
@@ -87,10 +88,10 @@ past : (es : List Active) (ls : List Line) (k p : ℕ) → Touches (touchedIn es
 unfolding touchedIn
 past es ls k p m = go (decLt k (length es)) m
   where
-    go : Dec (k < length es) → List·Memᴰ p (map number (involvedOf ls (getD es k held .equation))) → k < length es
+    go : Dec (k < length es) → List·Memᴰ p (map number (involvedOf ls (getD es k blankActive .equation))) → k < length es
     go (yes h) m = h
     go (no h) m =
-        let e : getD es k held ≡ held = List·getD-eq-default es held (omega arith) in
+        let e : getD es k blankActive ≡ blankActive = List·getD-eq-default es blankActive (omega arith) in
         absurd (List·Memᴰ·not-nil (rw e at m))
 
 -- only equations that the build counts have a part
@@ -98,7 +99,7 @@ counted : (es : List Active) (n : ℕ) (l : List ℕ) (s : ℕ) → ((k : ℕ) �
 unfolding fold moreRows
 counted es n [] s h = refl
 counted es n (k ∷ l) s h =
-    let e : equationAt (take n es) k ≡ equationAt es k = ap (λ (a : Active). a .equation) (getD-take n es k heldActive (h k (List·Memᴰ·head refl))) in
+    let e : equationAt (take n es) k ≡ equationAt es k = ap (λ (a : Active). a .equation) (getD-take n es k blankActive (h k (List·Memᴰ·head refl))) in
     rw e (counted es n l (s + rowsOf (equationAt es k)) (λ j m. h j (List·Memᴰ·tail m)))
 
 module _ (b : Build) (passes : checkOf b ≡ Passes) (g : ℕ) (among : g < groupingOf b .count) where
@@ -117,7 +118,7 @@ module _ (b : Build) (passes : checkOf b ≡ Passes) (g : ℕ) (among : g < grou
         ltb-false 64 (rowsOfBuild b) (given-exactly b .passes .0 passes .3),
       ))
 
-  pub never-over : overRows b (frameIn b (groupingOf b) g) ≡ false
+  pub never-over : frameOverRows b (frameIn b (groupingOf b) g) ≡ false
   never-over = rw (equations-back (b .points) (groupingOf b) g) (le-ltb 64 _ few)
 
   pub freedom-is-freedom : (x : List Float) → freedomIn b (frameIn b (groupingOf b) g) x ≡ freedomOf b (frameIn b (groupingOf b) g) x

@@ -7,7 +7,8 @@ use mathlib.Core.Path.{_≡_, refl, sym, ap, _∙_}
 use native.Mathlib.Nat.{zero-add}
 use lib.Ieee.{Float, nan}
 use lib.ListN.{getD, set, List·getD-map}
-use Rattle.loops.specs.Turns.{upTo, upTo-part}
+use Rattle.loops.specs.Turns.{upTo}
+use Rattle.loops.proofs.Turning.{upTo-part}
 use Rattle.sketch.specs.Parts.{equationsOf}
 use Rattle.sketch.specs.declared.Active.{Active}
 use Rattle.sketch.specs.declared.Build.{Build}

@@ -14,7 +14,7 @@ use lib.ListN.{length, set, replicate, length-set, List·getD-eq-default}
 use lib.Seq.{getD-set-same, getD-set-other, set-out}
 use Rattle.level.specs.Parents.{up, findOf, greater, aWins, joinTo, selfAt, alone}
 use Rattle.level.proofs.Forest.{fixedAt, ranked, rank, inside, stored, rank-small, rank-inside, Has, rooted, find-has, find-is}
-use Rattle.loops.specs.Keeps.{upTo-keeps}
+use Rattle.loops.proofs.Keeps.{upTo-keeps}
 
 -- the first i points are their own parents
 Own : ℕ → List ℕ → Type 0

@@ -17,7 +17,7 @@ use Rattle.loops.specs.Turns.{upTo}
 use Rattle.level.specs.Level.{place, follows, levelPoint, levelPoints}
 use Rattle.level.specs.Parents.{Gives, findOf}
 use Rattle.level.proofs.Forest.{fixedAt, Has, rooted, find-has, find-is}
-use Rattle.loops.specs.Keeps.{upTo-keeps}
+use Rattle.loops.proofs.Keeps.{upTo-keeps}
 
 module _ (fixed : List Bool) (few : length fixed ≤ 40) (axis n : ℕ) (ps : List ℕ) (ρ : ℕ → ℕ) (has : Has fixed few ps ρ) (before : List Float) where
   -- p keeps its coordinate: it is fixed, or a root

@@ -5,19 +5,10 @@
 --     whileTo hi lo p f s   the same as upTo, left with the state as it is where a turn's test p(i, s) fails
 --     fold f s l            for x in l { s = f(s, x) }
 --     every p l             whether p holds of each element
--- Each has a law for a turn (-next), for an early way out (-stop) and for the end (-done). R is what the whole loop gives, so an
--- invariant says "what is left gives R", which holds at the start by `refl`. `upTo-part` says a loop on a part as a loop on the whole,
--- `upTo-same` that loops whose turns do the same do the same, and `fold-append` that two lists are gone over one after the other.
--- Assumes nothing.
-use Prim.Native.Nat.{ℕ, zero, suc, _+_, _-_, _≤_, _<_}
+-- Their laws are proofs/Turning.antt's.
+use Prim.Native.Nat.{ℕ, zero, suc, _+_, _-_}
 use mathlib.Core.Bool.{Bool, true, false, cond}
-use mathlib.Core.List.{List, [], _∷_, _++_}
-use mathlib.Core.Path.{_≡_, refl, sym, _∙_}
-use native.Mathlib.Nat.{add-assoc}
-use native.Mathlib.Numerals.{add-one}
-use native.Mathlib.Omega.{arith}
-use lib.ListN.{length, getD, drop, drop-of-length-le}
-use lib.Seq.{drop-cons}
+use mathlib.Core.List.{List, [], _∷_}
 
 -- what a turn that may stop the loop gives
 pub data Try (S : Type 0) : Type 0 where
@@ -60,150 +51,12 @@ module _ {S : Type 0} where
   unfoldable pub whileTo : ℕ → ℕ → (ℕ → S → Bool) → (ℕ → S → S) → S → S
   whileTo hi lo p f s = whiles (hi - lo) lo p f s
 
--- how many turns are left: one more than after this one
-left-next : (hi i : ℕ) → i < hi → hi - i ≡ suc (hi - (i + 1))
-left-next hi i h = omega arith
-
-left-done : (hi i : ℕ) → hi ≤ i → hi - i ≡ 0
-left-done hi i h = omega arith
-
-module _ {S : Type 0} (f : ℕ → S → S) where
-  turns-next : (k n i : ℕ) (s : S) → n ≡ suc k → turns n i f s ≡ turns k (i + 1) f (f i s)
-  unfolding turns
-  turns-next k n i s e = rw e
-
-  turns-done : (n i : ℕ) (s : S) → n ≡ 0 → turns n i f s ≡ s
-  unfolding turns
-  turns-done n i s e = rw e
-
-  pub upTo-next : (hi i : ℕ) (s s′ R : S) → i < hi → s′ ≡ f i s → upTo hi i f s ≡ R → upTo hi (i + 1) f s′ ≡ R
-  unfolding upTo
-  upTo-next hi i s s′ R h e r = rw e (sym (turns-next (hi - (i + 1)) (hi - i) i s (left-next hi i h)) ∙ r)
-
-  pub upTo-done : (hi i : ℕ) (s R : S) → hi ≤ i → upTo hi i f s ≡ R → s ≡ R
-  unfolding upTo
-  upTo-done hi i s R h r = sym (turns-done (hi - i) i s (left-done hi i h)) ∙ r
-
-  down-next : (k i : ℕ) (s : S) → i ≡ suc k → downTo i f s ≡ downTo k f (f k s)
-  unfolding downTo
-  down-next k i s e = rw e
-
-  pub downTo-next : (i : ℕ) (s s′ R : S) → 0 < i → s′ ≡ f (i - 1) s → downTo i f s ≡ R → downTo (i - 1) f s′ ≡ R
-  downTo-next i s s′ R h e r = rw e (sym (down-next (i - 1) i s (omega arith)) ∙ r)
-
-  pub downTo-done : (i : ℕ) (s R : S) → i ≤ 0 → downTo i f s ≡ R → s ≡ R
-  unfolding downTo
-  downTo-done i s R h r = let e : i ≡ 0 = omega arith in rw e at r
-
--- two loops whose turns do the same do the same
-module _ {S : Type 0} (f g : ℕ → S → S) (lo : ℕ) (turn : (i : ℕ) (s : S) → lo ≤ i → f i s ≡ g i s) where
-  turns-same : (k i : ℕ) (s : S) → lo ≤ i → turns k i f s ≡ turns k i g s
-  unfolding turns
-  turns-same zero i s h = refl
-  turns-same (suc k) i s h = rw (turn i s h) (turns-same k (i + 1) (g i s) (omega arith))
-
-  pub upTo-same : (hi : ℕ) (s : S) → upTo hi lo f s ≡ upTo hi lo g s
-  unfolding upTo
-  upTo-same hi s = turns-same (hi - lo) lo s (omega arith)
-
--- a loop on a part of the state, t, is the loop on the whole, φ t, if each turn is: the whole's index is the part's past j
-module _ {S T : Type 0} (φ : T → S) (j : ℕ) (f : ℕ → S → S) (g : ℕ → T → T) (turn : (i : ℕ) (t : T) → f (j + i) (φ t) ≡ φ (g i t)) where
-  turns-part : (k i : ℕ) (t : T) → turns k (j + i) f (φ t) ≡ φ (turns k i g t)
-  unfolding turns
-  turns-part zero i t = refl
-  turns-part (suc k) i t = rw (turn i t, add-assoc j i 1) (turns-part k (i + 1) (g i t))
-
-  pub upTo-part : (hi i : ℕ) (t : T) → upTo (j + hi) (j + i) f (φ t) ≡ φ (upTo hi i g t)
-  unfolding upTo
-  upTo-part hi i t = let e : (j + hi) - (j + i) ≡ hi - i = omega arith in rw e (turns-part (hi - i) i t)
-
-module _ {S : Type 0} (f : ℕ → S → Try S) where
-  tries-next : (k n i : ℕ) (s s′ : S) → n ≡ suc k → f i s ≡ go s′ → tries n i f s ≡ tries k (i + 1) f s′
-  unfolding tries
-  tries-next k n i s s′ e g = rw (e, g)
-
-  tries-stop : (k n i : ℕ) (s : S) → n ≡ suc k → f i s ≡ stop → tries n i f s ≡ stop
-  unfolding tries
-  tries-stop k n i s e g = rw (e, g)
-
-  tries-done : (n i : ℕ) (s : S) → n ≡ 0 → tries n i f s ≡ go s
-  unfolding tries
-  tries-done n i s e = rw e
-
-  -- the turn is a function that answers b and leaves the state s′
-  pub tryTo-next : (hi i : ℕ) (b : Bool) (s s′ : S) (R : Try S) → i < hi → tried b s′ ≡ f i s → b ≡ true → tryTo hi i f s ≡ R → tryTo hi (i + 1) f s′ ≡ R
-  unfolding tryTo
-  tryTo-next hi i b s s′ R h e t r = sym (tries-next (hi - (i + 1)) (hi - i) i s s′ (left-next hi i h) (sym (rw t at e))) ∙ r
-
-  pub tryTo-stop : (hi i : ℕ) (b : Bool) (s s′ t : S) (R : Try S) → i < hi → tried b s′ ≡ f i s → b ≡ false → tryTo hi i f s ≡ R → tried false t ≡ R
-  unfolding tryTo
-  tryTo-stop hi i b s s′ t R h e q r = sym (tries-stop (hi - (i + 1)) (hi - i) i s (left-next hi i h) (sym (rw q at e))) ∙ r
-
-  pub tryTo-done : (hi i : ℕ) (s : S) (R : Try S) → hi ≤ i → tryTo hi i f s ≡ R → tried true s ≡ R
-  unfolding tryTo
-  tryTo-done hi i s R h r = sym (tries-done (hi - i) i s (left-done hi i h)) ∙ r
-
-module _ {S : Type 0} (p : ℕ → S → Bool) (f : ℕ → S → S) where
-  whiles-next : (k n i : ℕ) (s : S) → n ≡ suc k → p i s ≡ true → whiles n i p f s ≡ whiles k (i + 1) p f (f i s)
-  unfolding whiles
-  whiles-next k n i s e t = rw (e, t)
-
-  whiles-stop : (k n i : ℕ) (s : S) → n ≡ suc k → p i s ≡ false → whiles n i p f s ≡ s
-  unfolding whiles
-  whiles-stop k n i s e t = rw (e, t)
-
-  whiles-done : (n i : ℕ) (s : S) → n ≡ 0 → whiles n i p f s ≡ s
-  unfolding whiles
-  whiles-done n i s e = rw e
-
-  pub whileTo-next : (hi i : ℕ) (s s′ R : S) → i < hi → p i s ≡ true → s′ ≡ f i s → whileTo hi i p f s ≡ R → whileTo hi (i + 1) p f s′ ≡ R
-  unfolding whileTo
-  whileTo-next hi i s s′ R h t e r = rw e (sym (whiles-next (hi - (i + 1)) (hi - i) i s (left-next hi i h) t) ∙ r)
-
-  pub whileTo-stop : (hi i : ℕ) (s R : S) → i < hi → p i s ≡ false → whileTo hi i p f s ≡ R → s ≡ R
-  unfolding whileTo
-  whileTo-stop hi i s R h t r = sym (whiles-stop (hi - (i + 1)) (hi - i) i s (left-next hi i h) t) ∙ r
-
-  pub whileTo-done : (hi i : ℕ) (s R : S) → hi ≤ i → whileTo hi i p f s ≡ R → s ≡ R
-  unfolding whileTo
-  whileTo-done hi i s R h r = sym (whiles-done (hi - i) i s (left-done hi i h)) ∙ r
-
--- the rest of a list from a place on: the element there, and the rest after it
-rest-next : {A : Type 0} (d : A) (l : List A) (i : ℕ) → i < length l → drop i l ≡ getD l i d ∷ drop (i + 1) l
-rest-next d l i h = rw (add-one, drop-cons l i d h)
-
 module _ {A S : Type 0} where
   unfoldable pub fold : (S → A → S) → S → List A → S
   fold f s [] = s
   fold f s (x ∷ l) = fold f (f s x) l
 
-  pub fold-next : (d : A) (f : S → A → S) (l : List A) (i : ℕ) (s s′ R : S) → i < length l → s′ ≡ f s (getD l i d) → fold f s (drop i l) ≡ R → fold f s′ (drop (i + 1) l) ≡ R
-  unfolding fold
-  fold-next d f l i s s′ R h e r = rw e (rw (rest-next d l i h) at r)
-
-  pub fold-done : (f : S → A → S) (l : List A) (i : ℕ) (s R : S) → length l ≤ i → fold f s (drop i l) ≡ R → s ≡ R
-  unfolding fold
-  fold-done f l i s R h r = rw (drop-of-length-le l h) at r
-
-  pub fold-append : (f : S → A → S) (s : S) (l m : List A) → fold f s (l ++ m) ≡ fold f (fold f s l) m
-  unfolding fold
-  fold-append f s [] m = refl
-  fold-append f s (x ∷ l) m = fold-append f (f s x) l m
-
 module _ {A : Type 0} where
   unfoldable pub every : (A → Bool) → List A → Bool
   every p [] = true
   every p (x ∷ l) = cond (p x) (every p l) false
-
-  -- the test is a function that answers b
-  pub every-next : (d : A) (p : A → Bool) (l : List A) (i : ℕ) (b R : Bool) → i < length l → b ≡ p (getD l i d) → b ≡ true → every p (drop i l) ≡ R → every p (drop (i + 1) l) ≡ R
-  unfolding every
-  every-next d p l i b R h e t r = rw (sym e ∙ t) at (rw (rest-next d l i h) at r)
-
-  pub every-stop : (d : A) (p : A → Bool) (l : List A) (i : ℕ) (b R : Bool) → i < length l → b ≡ p (getD l i d) → b ≡ false → every p (drop i l) ≡ R → false ≡ R
-  unfolding every
-  every-stop d p l i b R h e t r = rw (sym e ∙ t) at (rw (rest-next d l i h) at r)
-
-  pub every-done : (p : A → Bool) (l : List A) (i : ℕ) (R : Bool) → length l ≤ i → every p (drop i l) ≡ R → true ≡ R
-  unfolding every
-  every-done p l i R h r = rw (drop-of-length-le l h) at r

@@ -1,5 +1,5 @@
-// How loops are said and proved: the definitions and laws of specs/, which every crate's contracts and proofs cite; and two questions
-// about whole numbers that many rooms ask.
+// How loops are said and proved: the definitions of specs/ and the laws of proofs/, which every crate's contracts and proofs cite; and two
+// questions about whole numbers that many rooms ask.
 ghost use mathlib.Core.Path.{_≡_};
 ghost use Prim.Native.Nat.{_*_, min};
 ghost use lib.Dec.{leb};

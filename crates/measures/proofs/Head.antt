@@ -9,7 +9,7 @@ use lib.Ieee.{Float}
 use lib.ListN.{length, getD, take, drop, set, length-take, length-map, drop-of-length-le}
 use lib.Seq.{getD-take, take-all}
 use Rattle.floats.specs.Lists.{copiedOf}
-use Rattle.loops.specs.Writes.{into-next}
+use Rattle.loops.proofs.Writes.{into-next}
 
 module _ {A B : Type 0} (g : A → B) where
   taken : (n : ℕ) (l : List A) → map g (take n l) ≡ take n (map g l)

@@ -13,7 +13,7 @@ use Rattle.sketch.specs.declared.Build.{Build}
 use Rattle.sketch.specs.declared.Measure.{Measure}
 use Rattle.sketch.specs.declared.Measured.{Measured}
 use Rattle.measures.specs.Gauges.{gaugeOf, gaugedOf, measuredIn}
-use Rattle.measures.specs.Scale.{scaleAt, scaledOf, selfAt}
+use Rattle.measures.specs.Scale.{scaleAt, allScaledOf, selfAt}
 
 abbrev along : ℕ → Float → Measured
 along axis side = record { measure = Measure.AxisDistance (record { 0 = 0 }) (record { 0 = 1 }) axis side }
@@ -39,5 +39,5 @@ abbrev 2·0⁻ : Float
 
 -- the third place of the output is no measure's
 pub along-axes : (z : Float) → measuredIn build (one ∷ 5·0 ∷ 4·0 ∷ 7·0 ∷ []) (z ∷ z ∷ z ∷ []) ≡ 3·0 ∷ 2·0⁻ ∷ z ∷ []
-unfolding turns upTo rowsOfEquation axisDistanceOf atOf gaugeOf gaugedOf measuredIn scaleAt scaledOf selfAt ofBits add sub mul div neg
+unfolding turns upTo rowsOfEquation axisDistanceOf atOf gaugeOf gaugedOf measuredIn scaleAt allScaledOf selfAt ofBits add sub mul div neg
 along-axes z = refl

@@ -14,7 +14,7 @@ use Rattle.sketch.specs.declared.Equation.{Equation}
 use Rattle.sketch.specs.declared.Line.{Line}
 use Rattle.sketch.specs.declared.Measure.{Measure}
 use Rattle.sketch.specs.declared.Measured.{Measured}
-use Rattle.measures.specs.Scale.{scaledOf, inOrder}
+use Rattle.measures.specs.Scale.{allScaledOf, inOrder}
 
 -- "Each measure is its dimension's equation with the value 0."
 abbrev pub equationOf : Measure → Equation
@@ -33,7 +33,7 @@ gaugeOf ls places x size m = getD (rowsOfEquation ls (atOf places x) (equationOf
 unfoldable pub gaugedOf : Build → List Float → List Float
 gaugedOf b points =
     let n = min (b .«point_count») 40 in
-    map (gaugeOf (b .lines) (take n inOrder) (scaledOf (b .centre) (b .size) n points) (b .size)) (measuresOf b)
+    map (gaugeOf (b .lines) (take n inOrder) (allScaledOf (b .centre) (b .size) n points) (b .size)) (measuresOf b)
 
 -- they go to the head of out, as many as there is room for
 unfoldable pub measuredIn : Build → List Float → List Float → List Float

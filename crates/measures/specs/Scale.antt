@@ -14,8 +14,8 @@ scaleAt centre size points p x =
     set (set x (2 * p) ((getD points (2 * p) nan ⊖ centre .x) ⊘ size)) (2 * p + 1) ((getD points (2 * p + 1) nan ⊖ centre .y) ⊘ size)
 
 -- the first n points, of 40
-unfoldable pub scaledOf : Vec2 → Float → ℕ → List Float → List Float
-scaledOf centre size n points = upTo n 0 (scaleAt centre size points) (replicate 80 zero⁺)
+unfoldable pub allScaledOf : Vec2 → Float → ℕ → List Float → List Float
+allScaledOf centre size n points = upTo n 0 (scaleAt centre size points) (replicate 80 zero⁺)
 
 -- (0..n).collect(): a point stands at its own number
 unfoldable pub selfAt : ℕ → List ℕ → List ℕ

@@ -1,7 +1,7 @@
 // The points in the coordinates of the equations, and where each of them stands there.
 ghost use mathlib.Core.Path.{_≡_};
 ghost use Prim.Native.Nat.{_<_, _≤_};
-ghost use Rattle.measures.specs.Scale.{scaleAt, scaledOf, inOrder};
+ghost use Rattle.measures.specs.Scale.{scaleAt, allScaledOf, inOrder};
 use plane::Vec2;
 
 // The two coordinates of point p.
@@ -17,7 +17,7 @@ fn scale(x: &mut [f64], p: usize, centre: Vec2, size: f64, points: &[f64])
 // The first n points.
 pub(crate) fn scaled(centre: Vec2, size: f64, points: &[f64], n: usize) -> [f64; 80]
     requires { ⌜ n ≤ 40 ⌝ }
-    ensures { λ r. ⌜ r ≡ scaledOf centre size n (now (points .entry)) ⌝ }
+    ensures { λ r. ⌜ r ≡ allScaledOf centre size n (now (points .entry)) ⌝ }
 {
     let mut x = [0.0; 80];
     for p in 0..n {

@@ -7,7 +7,8 @@ use borrow.Author.Tests.{lt-ltb, le-ltb}
 use lib.Ieee.{Float, nan}
 use lib.ListN.{length, getD, take, set, length-take}
 use lib.Seq.{getD-take}
-use Rattle.loops.specs.Turns.{upTo, upTo-next, upTo-done}
+use Rattle.loops.specs.Turns.{upTo}
+use Rattle.loops.proofs.Turning.{upTo-next, upTo-done}
 use Rattle.plane.specs.declared.Vec2.{Vec2}
 use Rattle.sketch.specs.declared.Point.{Point}
 use Rattle.members.specs.Scale.{backTo, unscaleTo, unscaleOne, unscaleAt}

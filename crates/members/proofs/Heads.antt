@@ -8,7 +8,7 @@ use native.Mathlib.Omega.{arith}
 use lib.ListN.{length, set, length-append}
 use lib.Seq.{set-append-seam}
 use Rattle.members.specs.Lists.{headed, listedOf, Lists, pushedOf}
-use Rattle.members.specs.Movable.{coordinatesOf, Holds, pushedTwo}
+use Rattle.members.specs.Movable.{coordinatesOf, ListsCoordinates, pushedTwo}
 use Rattle.members.specs.declared.Coordinates.{Coordinates}
 use Rattle.members.specs.declared.Listed.{Listed}
 
@@ -94,7 +94,7 @@ two-next false k f f′ rest whole h e t = rw e t
 coordinates-is : (f : Coordinates) (items : List ℕ) (count : ℕ) → f .items ≡ items → f .count ≡ count → f ≡ record { items = items; count = count }
 coordinates-is f items count e g = rw (← e, ← g)
 
-pub two-done : (f : Coordinates) (whole : List ℕ) → f .count ≤ 80 → PushedTwo f [] whole → Holds f whole
+pub two-done : (f : Coordinates) (whole : List ℕ) → f .count ≤ 80 → PushedTwo f [] whole → ListsCoordinates f whole
 two-done f whole h t =
     let items = heads-items 80 (f .items) (f .count) whole t in
     let count = heads-count 80 (f .items) (f .count) whole t in

@@ -10,7 +10,7 @@ use lib.Seq.{drop-cons}
 use Rattle.groups.specs.Chains.{placesFrom}
 use Rattle.sketch.specs.declared.Point.{Point}
 use Rattle.members.specs.Lists.{Lists, pushedOf, withoutOf}
-use Rattle.members.specs.Movable.{fixedOf, nowhere, pointsAt, freeFrom, Holds, pushedTwo}
+use Rattle.members.specs.Movable.{fixedOf, nowhere, pointsAt, freeFrom, ListsCoordinates, pushedTwo}
 use Rattle.members.specs.declared.Coordinates.{Coordinates}
 use Rattle.members.specs.declared.Listed.{Listed}
 use Rattle.members.proofs.Heads.{Pushed, pushed-next, pushed-done, PushedTwo, two-next, two-done}
@@ -64,7 +64,7 @@ module _ (points : List Point) (ps : List ℕ) where
   free-next k b p f f′ whole h q g n e t =
       two-next (not (fixedOf (at (getD ps k 0)))) k f f′ _ whole n (rw (g, q) at e) (rw (free-here k h) at t)
 
-  pub free-done : (k : ℕ) (f : Coordinates) (whole : List ℕ) → length ps ≤ k → f .count ≤ 80 → PushedTwo f (freeFrom k (drop k (pointsAt points ps))) whole → Holds f whole
+  pub free-done : (k : ℕ) (f : Coordinates) (whole : List ℕ) → length ps ≤ k → f .count ≤ 80 → PushedTwo f (freeFrom k (drop k (pointsAt points ps))) whole → ListsCoordinates f whole
   unfolding freeFrom
   free-done k f whole h n t =
       let m : length (pointsAt points ps) ≤ k = rw (length-map ps at) h in

@@ -8,12 +8,13 @@ use borrow.Author.Tests.{lt-leb}
 use lib.Ieee.{Float}
 use lib.ListN.{length, getD, take, drop, set, length-take, length-map, List·getD-map}
 use lib.Seq.{length-take-le, getD-take, take-suc, take-all, drop-cons, set-at}
-use Rattle.loops.specs.Parts.{set-past}
+use Rattle.loops.proofs.Parts.{set-past}
 use Rattle.plane.specs.declared.Vec2.{Vec2}
 use Rattle.sketch.specs.declared.Point.{Point}
 use Rattle.groups.proofs.Counted.{taken}
 use Rattle.members.specs.Movable.{nowhere, pointsAt}
-use Rattle.members.specs.Scale.{scaledOf, startOf, start-length, startIn, starts}
+use Rattle.members.specs.Scale.{scaledOf, startOf, startIn}
+use Rattle.members.proofs.Readings.{start-length, starts}
 
 -- two stores past what is written
 two-sets : {A : Type 0} (d : A) (a l : List A) (n : ℕ) (u v : A) → length a ≡ n → n + 1 < length l

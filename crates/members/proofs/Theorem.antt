@@ -9,14 +9,14 @@ use mathlib.Core.Logic.{_⊎_, inl, inr}
 use mathlib.Core.Path.{_≡_}
 use native.Mathlib.Omega.{arith}
 use lib.Dec.{eqb}
-use lib.ListN.{length, getD}
+use lib.ListN.{length}
 use Rattle.groups.proofs.Places.{rises}
 use Rattle.groups.specs.Chains.{placesFrom, pointsIn, Rises}
 use Rattle.groups.specs.declared.Grouping.{Grouping}
 use Rattle.sketch.specs.declared.Point.{Point}
 use Rattle.members.specs.Movable.{fixedOf, freeFrom}
-use Rattle.members.specs.Searched.{localOf, positionOf, Within, searched}
-use Rattle.members.specs.Tables.{placesOf, columnsOf}
+use Rattle.members.specs.Searched.{PointsSearched, ColumnsSearched}
+use Rattle.members.proofs.Searching.{Within, searched}
 
 -- ---- points
 
@@ -38,8 +38,8 @@ module _ (gr : Grouping) (j : ℕ) (sized : length (gr .«of_point») ≤ 40) wh
   points-within : Within 40 (pointsIn gr j)
   points-within p m = omega (arith, places-within 0 (gr .«of_point») j p m)
 
-  pub points-searched : (p : ℕ) → getD (placesOf (pointsIn gr j)) p 0 ≡ localOf (pointsIn gr j) p
-  points-searched p = searched 40 0 (pointsIn gr j) (rises 0 (gr .«of_point») j) points-within p
+pub points-searched : (gr : Grouping) (j : ℕ) → PointsSearched gr j
+points-searched gr j sized p = searched 40 0 (pointsIn gr j) (rises 0 (gr .«of_point») j) (points-within gr j sized) p
 
 -- ---- free coordinates
 
@@ -96,7 +96,7 @@ free-rises k (p ∷ ps) = go (fixedOf p) (free-rises (k + 1) ps)
     go true r = r
     go false r = (λ c m. from c (List·Memᴰ·cases-cons m), (above, r))
 
-pub columns-searched : (ps : List Point) → length ps ≤ 40 → (c : ℕ) → getD (columnsOf (freeFrom 0 ps)) c 255 ≡ positionOf (freeFrom 0 ps) c
+pub columns-searched : (ps : List Point) → ColumnsSearched ps
 unfolding Between
 columns-searched ps h c =
     searched 80 255 (freeFrom 0 ps) (free-rises 0 ps) (λ x m. omega (arith, free-between 0 ps x m .1)) c

@@ -16,7 +16,7 @@ use Rattle.sketch.specs.declared.State.the-variants.{Free, Kept, Placed}
 use Rattle.members.specs.Lists.{withoutOf}
 use Rattle.members.specs.Movable.{nowhere, pointsAt, freeFrom}
 use Rattle.members.specs.Scale.{startOf, moveBy, unscaleTo, unscaleAt, unscaleOf}
-use Rattle.members.specs.Searched.{standsFrom, localOf, positionOf}
+use Rattle.members.specs.Searched.{standsFrom, placeAmong, positionOf}
 use Rattle.members.specs.Tables.{numberAt, numberedOf, placesOf, columnsOf}
 
 -- document 01's (a): of five points one group, 1, 3 and 4, with the equations 0 and 1
@@ -43,7 +43,7 @@ pub group :
     × (freeFrom 0 (pointsAt five (pointsIn grouping 0)) ≡ 0 ∷ 1 ∷ 4 ∷ 5 ∷ [])
     × (placesOf (pointsIn grouping 0) ≡ 0 ∷ 0 ∷ 0 ∷ 1 ∷ 2 ∷ replicate 35 0)
     × (columnsOf (0 ∷ 1 ∷ 4 ∷ 5 ∷ []) ≡ 0 ∷ 1 ∷ 255 ∷ 255 ∷ 2 ∷ 3 ∷ replicate 74 255)
-    × (localOf (1 ∷ 3 ∷ 4 ∷ []) 4 ≡ 2)
+    × (placeAmong (1 ∷ 3 ∷ 4 ∷ []) 4 ≡ 2)
     × (positionOf (0 ∷ 1 ∷ 4 ∷ 5 ∷ []) 2 ≡ 255)
 unfolding placesFrom withoutOf freeFrom numberAt numberedOf standsFrom turns upTo
 group = (refl, refl, refl, refl, refl, refl, refl)

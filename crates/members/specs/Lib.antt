@@ -1,8 +1,8 @@
--- What the room's contracts are said by, and the laws on it that callers use.
+-- What the room's contracts are said by.
 --     Lists      numbers at the head of an array; the points and the equations of a group
 --     Movable    which points are fixed, and a group's free coordinates
 --     Tables     a number's place in a list, from a filled table
---     Searched   that such a table is a search in the list: `binary_search` with its fallback
+--     Searched   a search in the list, which such a table is: `binary_search` with its fallback
 --     Scale      `scaled`, where a fit starts, and `unscale`
 --     Examples   worked: a group of three of five points; document 01's (l)
 pub mod Lists

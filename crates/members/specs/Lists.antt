@@ -3,10 +3,9 @@
 use Prim.Native.Nat.{ℕ, _+_, _-_, _≤_}
 use mathlib.Core.Bool.{Bool, cond}
 use mathlib.Core.List.{List, [], _∷_, _++_}
-use mathlib.Core.Path.{_≡_, refl}
+use mathlib.Core.Path.{_≡_}
 use lib.Dec.{eqb}
 use lib.ListN.{length, take, set, replicate}
-use lib.Seq.{take-at}
 use Rattle.members.specs.declared.Listed.{Listed}
 
 -- l at the head of n places, and 0 past it
@@ -24,10 +23,6 @@ numbersOf l = take (l .count) (l .items)
 pub record Lists (r : Listed) (ps : List ℕ) : Type 0 where
   pub is : r ≡ listedOf ps
   pub few : length ps ≤ 40
-
--- so that they can be read back
-pub numbers-are : (r : Listed) (ps : List ℕ) → Lists r ps → numbersOf r ≡ ps
-numbers-are r ps t = rw (t .is) (take-at ps _ (length ps) refl)
 
 -- one number more, if it is wanted
 unfoldable pub pushedOf : Bool → ℕ → Listed → Listed

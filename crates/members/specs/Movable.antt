@@ -2,10 +2,9 @@
 use Prim.Native.Nat.{ℕ, _+_, _*_, _≤_}
 use mathlib.Core.Bool.{Bool, true, false, cond}
 use mathlib.Core.List.{List, [], _∷_, map}
-use mathlib.Core.Path.{_≡_, refl}
+use mathlib.Core.Path.{_≡_}
 use lib.Dec.{ltb}
 use lib.ListN.{length, getD, take, set}
-use lib.Seq.{take-at}
 use Rattle.floats.specs.Ops.{zero⁺}
 use Rattle.sketch.specs.declared.Point.{Point}
 use Rattle.sketch.specs.declared.State.{State}
@@ -48,13 +47,9 @@ abbrev pub indicesOf : Coordinates → List ℕ
 indicesOf f = take (f .count) (f .items)
 
 -- what the call that finds them promises: f holds cs, and there is room for them
-pub record Holds (f : Coordinates) (cs : List ℕ) : Type 0 where
+pub record ListsCoordinates (f : Coordinates) (cs : List ℕ) : Type 0 where
   pub is : f ≡ coordinatesOf cs
   pub few : length cs ≤ 80
-
--- so that they can be read back
-pub indices-are : (f : Coordinates) (cs : List ℕ) → Holds f cs → indicesOf f ≡ cs
-indices-are f cs t = rw (t .is) (take-at cs _ (length cs) refl)
 
 -- the two coordinates of the k-th point, if they are wanted
 unfoldable pub pushedTwo : Bool → ℕ → Coordinates → Coordinates

@@ -1,11 +1,8 @@
 -- equations.rs, `scaled`, `unscale` and the `x0` of `fit`, and lib.rs, `solve`, where the points of a group are put among all.
 -- A point's two coordinates stand next to each other.
-use Prim.Native.Nat.{ℕ, _+_, _*_, _≤_}
+use Prim.Native.Nat.{ℕ, _+_, _*_}
 use mathlib.Core.Bool.{cond}
 use mathlib.Core.List.{List, [], _∷_, _++_}
-use mathlib.Core.Path.{_≡_, refl}
-use native.Mathlib.Omega.{arith}
-use borrow.Author.Tests.{le-leb}
 use lib.Dec.{ltb, leb}
 use lib.Ieee.{Float, nan, eq}
 use lib.ListN.{length, getD, drop, set}
@@ -35,20 +32,9 @@ unfoldable pub startOf : Vec2 → Float → List Point → List Float
 startOf centre size [] = []
 startOf centre size (p ∷ ps) = scaledOf centre size p .x ∷ scaledOf centre size p .y ∷ startOf centre size ps
 
--- two numbers for each point
-pub start-length : (centre : Vec2) (size : Float) (ps : List Point) → length (startOf centre size ps) ≡ 2 * length ps
-unfolding startOf
-start-length centre size [] = refl
-start-length centre size (p ∷ ps) = omega (arith, start-length centre size ps)
-
 -- at the head of a lent slice; where it is too short nothing happens
 unfoldable pub startIn : Vec2 → Float → List Point → List Float → List Float
 startIn centre size ps x = cond (leb (2 * length ps) (length x)) (startOf centre size ps ++ drop (2 * length ps) x) x
-
-pub starts : (centre : Vec2) (size : Float) (ps : List Point) (x : List Float) → 2 * length ps ≤ length x
-    → startIn centre size ps x ≡ startOf centre size ps ++ drop (2 * length ps) x
-unfolding startIn
-starts centre size ps x h = rw (le-leb (2 * length ps) (length x) h)
 
 -- the Rust's `move_by`: x is where a coordinate ended and s where it started, in units of size
 unfoldable pub moveBy : Float → Float → Float → Float

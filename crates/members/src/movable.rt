@@ -3,7 +3,7 @@ ghost use mathlib.Core.List.{[]};
 ghost use mathlib.Core.Path.{_≡_};
 ghost use Prim.Native.Nat.{_*_, _≤_, _<_};
 ghost use Rattle.members.specs.Lists.{numbersOf};
-ghost use Rattle.members.specs.Movable.{Holds, fixedOf, knownOf, pointsAt, freeFrom, coordinatesOf, pushedTwo};
+ghost use Rattle.members.specs.Movable.{ListsCoordinates, fixedOf, knownOf, pointsAt, freeFrom, coordinatesOf, pushedTwo};
 use crate::Coordinates;
 use crate::Listed;
 use crate::Points;
@@ -67,14 +67,14 @@ fn pushed_two(f: Coordinates, k: usize, wanted: bool) -> Coordinates
 
 // The free coordinates of a group's points.
 pub fn free(points: [Point; 40], l: Points) -> Coordinates
-    ensures { λ r. ⌜ Holds r (freeFrom 0 (pointsAt points (numbersOf (l .0)))) ⌝ }
+    ensures { λ r. ⌜ ListsCoordinates r (freeFrom 0 (pointsAt points (numbersOf (l .0)))) ⌝ }
 {
     let listed = l.0;
     free_of(points, listed)
 }
 
 fn free_of(points: [Point; 40], l: Listed) -> Coordinates
-    ensures { λ r. ⌜ Holds r (freeFrom 0 (pointsAt points (numbersOf l))) ⌝ }
+    ensures { λ r. ⌜ ListsCoordinates r (freeFrom 0 (pointsAt points (numbersOf l))) ⌝ }
 {
     let n = smaller(l.count, 40);
     let mut f = none_free();

@@ -12,7 +12,7 @@ use native.Mathlib.Omega.{arith}
 use lib.ListN.{length, take, drop, set, length-append}
 use lib.Seq.{take-nil, drop-nil, take-at, take-suc, take-length, drop-append-add, drop-drop}
 use lib.Ieee.{Float}
-use Rattle.loops.specs.Keeps.{upTo-keeps}
+use Rattle.loops.proofs.Keeps.{upTo-keeps}
 use Rattle.nullspace.specs.Steps.{push, collect, item, rowAt}
 
 abbrev pub Wide : ℕ → List (List Float) → Type 0

@@ -16,13 +16,13 @@ use lib.ListN.{length, take, drop, set, replicate, length-append, length-drop, l
 use lib.Seq.{length-take-le, take-at, drop-at}
 use lib.Ieee.{Float, lt, eq}
 use Rattle.floats.specs.Ops.{_⊘_, zero⁺, one}
-use Rattle.loops.specs.Cells.{cell-row}
-use Rattle.loops.specs.Keeps.{upTo-keeps}
+use Rattle.loops.proofs.Cells.{cell-row}
+use Rattle.loops.proofs.Keeps.{upTo-keeps}
 use Rattle.loops.specs.Turns.{go, stop, upTo}
 use Rattle.root.specs.Root.{sqrtOf}
 use Rattle.solver.specs.Sums.{norm2Of}
 use Rattle.nullspace.specs.Steps.{push, collect, item, rowAt, scaledBy, unitOf, unitAt, colsOf, ended, Qr, qr, turnOf, goes, orAsItIs, decomposed, reflectorsOf, rankOf, reflectBy, basisVector, basisOf}
-use Rattle.nullspace.specs.Layout.{addUnit, unitRows, turns-on, firstOf, turned, Laid, laid, laidOn, laidTurn, laidOut, laidRank, laidReflectors, reflectByRow, laidVector, addVector, laidBasis}
+use Rattle.nullspace.specs.Layout.{addUnit, unitRows, turns-on, firstOf, turned, LaidQr, laid, laidOn, laidTurn, laidOut, laidRank, laidReflectors, reflectByRow, laidVector, addVector, laidBasis}
 use Rattle.nullspace.proofs.Both.{upTo-both, whileTo-both, downTo-same, downTo-foldr}
 use Rattle.nullspace.proofs.Flat.{Wide, wide-append, flatten-push, length-flatten, row-is, rows-are}
 use Rattle.nullspace.proofs.Reflects.{either, reflect-length}
@@ -92,7 +92,7 @@ record Held (rows n k rank : ℕ) (first : Float) (w : List Float) (rs : List (L
   pub list : w ≡ flatten rs ++ flatten (drop k cols)
   pub started : First k first o
 
-abbrev Alike : ℕ → ℕ → ℕ → Laid → Qr → Type 0
+abbrev Alike : ℕ → ℕ → ℕ → LaidQr → Qr → Type 0
 Alike rows n k (laid rank first w) (qr rs o cols) = Held rows n k rank first w rs o cols
 
 goes-is : (a b : Bool) (x : Qr) → goes (cond a stop (cond b stop (go x))) ≡ not a && not b
@@ -175,10 +175,10 @@ module _ (rows n k rank : ℕ) (first : Float) (w : List Float) (rs : List (List
   on e = rw (next-is e) stepped
 
 module _ (rows n : ℕ) where
-  same : (k : ℕ) (s : Laid) (d : Qr) → k < min n rows → Alike rows n k s d → laidOn rows n k s ≡ goes (turnOf k d)
+  same : (k : ℕ) (s : LaidQr) (d : Qr) → k < min n rows → Alike rows n k s d → laidOn rows n k s ≡ goes (turnOf k d)
   same k (laid rank first w) (qr rs o cols) h a = on-is rows n k rank first w rs o cols h a
 
-  step : (k : ℕ) (s : Laid) (d : Qr) → k < min n rows → Alike rows n k s d → goes (turnOf k d) ≡ true → Alike rows n (k + 1) (laidTurn rows n k s) (orAsItIs d (turnOf k d))
+  step : (k : ℕ) (s : LaidQr) (d : Qr) → k < min n rows → Alike rows n k s d → goes (turnOf k d) ≡ true → Alike rows n (k + 1) (laidTurn rows n k s) (orAsItIs d (turnOf k d))
   step k (laid rank first w) (qr rs o cols) h a = on rows n k rank first w rs o cols h a
 
   both : (cols : List (List Float)) → length cols ≡ rows → Wide n cols → (k : ℕ) × Alike rows n k (laidOut rows n (flatten cols)) (decomposed n cols)
@@ -191,13 +191,13 @@ module _ (rows n : ℕ) where
 
 -- ---- the rank and the reflectors
 
-pub record Found (n : ℕ) (s : Laid) (d : Qr) : Type 0 where
+pub record Found (n : ℕ) (s : LaidQr) (d : Qr) : Type 0 where
   pub few : rankOf d ≤ n
   pub wide : Wide n (reflectorsOf d)
   pub rank : laidRank s ≡ rankOf d
   pub reflectors : laidReflectors n s ≡ flatten (reflectorsOf d)
 
-told : (rows n k : ℕ) (s : Laid) (d : Qr) → Alike rows n k s d → Found n s d
+told : (rows n k : ℕ) (s : LaidQr) (d : Qr) → Alike rows n k s d → Found n s d
 told rows n k (laid rank first w) (qr rs o cols) a = record {
   few = rw (a .count) (a .few);
   wide = a .wide .0;

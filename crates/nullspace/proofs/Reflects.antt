@@ -10,7 +10,7 @@ use lib.ListN.{length, set, length-append, length-set, List·getD-append}
 use lib.Seq.{set-append-left}
 use lib.Ieee.{Float, nan, ne}
 use Rattle.floats.specs.Ops.{_⊖_, _⊗_, _⊘_, zero⁺, zero⁻, two}
-use Rattle.loops.specs.Parts.{get-past, set-past}
+use Rattle.loops.proofs.Parts.{get-past, set-past}
 use Rattle.loops.specs.Turns.{turns, upTo}
 use Rattle.solver.specs.Steps.{at, lessPast}
 use Rattle.nullspace.specs.Steps.{dotOf, lessAll, reflectOf}

@@ -8,8 +8,8 @@ use lib.ListN.{length, getD, take, drop, set, length-append, drop-of-length-le, 
 use lib.Seq.{length-take-le, take-all, set-append-left, set-split, set-getD, split-at}
 use lib.Ieee.{Float, nan}
 use Rattle.floats.specs.Lists.{swapAt}
-use Rattle.loops.specs.Keeps.{upTo-keeps}
-use Rattle.loops.specs.Parts.{get-past, set-past}
+use Rattle.loops.proofs.Keeps.{upTo-keeps}
+use Rattle.loops.proofs.Parts.{get-past, set-past}
 use Rattle.loops.specs.Turns.{upTo}
 use Rattle.nullspace.specs.Steps.{item, swapped}
 use Rattle.nullspace.specs.Layout.{swapHead}

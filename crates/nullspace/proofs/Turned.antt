@@ -12,8 +12,9 @@ use lib.Seq.{length-take-le, take-at, drop-cons, drop-append-le, drop-append-add
 use lib.Ieee.{Float, nan}
 use Rattle.floats.specs.Magnitude.{magnitudeOf}
 use Rattle.floats.specs.Ops.{zero⁺}
-use Rattle.loops.specs.Keeps.{upTo-keeps}
-use Rattle.loops.specs.Turns.{upTo, upTo-part}
+use Rattle.loops.proofs.Keeps.{upTo-keeps}
+use Rattle.loops.specs.Turns.{upTo}
+use Rattle.loops.proofs.Turning.{upTo-part}
 use Rattle.root.specs.Root.{sqrtOf}
 use Rattle.solver.specs.Sums.{norm2Of}
 use Rattle.nullspace.specs.Steps.{item, reflectOf, normOf, longer, bestOf, swapped, away, reflectorOf, reflectFrom}

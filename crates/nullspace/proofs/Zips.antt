@@ -12,8 +12,9 @@ use lib.ListN.{length, getD, take, drop, set, length-append, length-drop, drop-o
 use lib.Seq.{length-take-le, take-all, take-suc, drop-cons, getD-at, paste-suc}
 use lib.Ieee.{Float, nan}
 use Rattle.floats.specs.Ops.{_⊕_, _⊖_, _⊗_, zero⁻}
-use Rattle.loops.specs.Keeps.{upTo-keeps}
-use Rattle.loops.specs.Turns.{upTo, fold, fold-append}
+use Rattle.loops.proofs.Keeps.{upTo-keeps}
+use Rattle.loops.specs.Turns.{upTo, fold}
+use Rattle.loops.proofs.Turning.{fold-append}
 use Rattle.nullspace.specs.Steps.{dotOf}
 use Rattle.nullspace.specs.Layout.{addProduct, lessBy}
 

@@ -85,24 +85,24 @@ unfoldable pub turned : ℕ → ℕ → ℕ → List Float → List Float
 turned n m k t = reflectedBy n m (norm2Of (take n (begun n m k t))) (begun n m k t)
 
 -- between two turns: the reflectors so far, the first norm, which is +0.0 before there is one, and the list
-pub data Laid : Type 0 where
-  laid : ℕ → Float → List Float → Laid
+pub data LaidQr : Type 0 where
+  laid : ℕ → Float → List Float → LaidQr
 
-unfoldable pub laidOn : ℕ → ℕ → ℕ → Laid → Bool
+unfoldable pub laidOn : ℕ → ℕ → ℕ → LaidQr → Bool
 laidOn rows n k (laid rank first w) = turns-on n (rows - k) k first (drop (k * n) w)
 
-unfoldable pub laidTurn : ℕ → ℕ → ℕ → Laid → Laid
+unfoldable pub laidTurn : ℕ → ℕ → ℕ → LaidQr → LaidQr
 laidTurn rows n k (laid rank first w) =
     laid (k + 1) (firstOf n (rows - k) k first (drop (k * n) w)) (take (k * n) w ++ turned n (rows - k) k (drop (k * n) w))
 
-unfoldable pub laidOut : ℕ → ℕ → List Float → Laid
+unfoldable pub laidOut : ℕ → ℕ → List Float → LaidQr
 laidOut rows n w = whileTo (min n rows) 0 (laidOn rows n) (laidTurn rows n) (laid 0 zero⁺ w)
 
 -- the first rank rows are the reflectors
-abbrev pub laidRank : Laid → ℕ
+abbrev pub laidRank : LaidQr → ℕ
 laidRank (laid rank first w) = rank
 
-abbrev pub laidReflectors : ℕ → Laid → List Float
+abbrev pub laidReflectors : ℕ → LaidQr → List Float
 laidReflectors n (laid rank first w) = take (rank * n) w
 
 -- the basis vector of j by the reflectors in the rows of w, and the vectors one after another

@@ -1,16 +1,14 @@
 -- What a call of `null_space` answers and leaves in each lent place, for every input.
-use Prim.Native.Nat.{ℕ, _-_, _*_, _≤_, _<_}
+use Prim.Native.Nat.{ℕ, _-_, _*_}
 use mathlib.Core.Bool.{cond}
 use mathlib.Core.List.{List, _++_, flatten}
 use mathlib.Core.Path.{_≡_}
-use borrow.Author.Tests.{lt-ltb, le-ltb}
 use lib.Dec.{ltb}
 use lib.ListN.{length, drop, replicate}
 use lib.Ieee.{Float}
 use Rattle.floats.specs.Only.{only-answer}
 use Rattle.floats.specs.Ops.{zero⁺}
 use Rattle.loops.specs.Numbers.{Meaning, refused, values, tooMany, tooShort}
-use Rattle.loops.specs.Picks.{pick-yes, pick-no}
 use Rattle.nullspace.specs.declared.NullSpace.{NullSpace}
 use Rattle.nullspace.specs.declared.NullSpace.the-variants.{Rank, TooMany, TooShort}
 use Rattle.nullspace.specs.Steps.{Qr, collect, rowAt, colsOf, decomposed, reflectorsOf, rankOf, basisOf}
@@ -33,33 +31,6 @@ module _ {A : Type 0} (rows n : ℕ) (m w out : List Float) where
       cond (ltb 64 rows) three
       (cond (ltb 80 n) three
       (cond (ltb (length m) (rows * n)) nine (cond (ltb (length w) (rows * n)) nine (cond (ltb (length out) (n * n)) nine done))))
-
-  module _ (v three nine done : A) where
-    pub too-many-rows : 64 < rows → v ≡ three → v ≡ checked three nine done
-    unfolding checked
-    too-many-rows h e = pick-yes _ _ _ _ (lt-ltb 64 rows h) e
-
-    module _ (r : rows ≤ 64) where
-      pub too-many-columns : 80 < n → v ≡ three → v ≡ checked three nine done
-      unfolding checked
-      too-many-columns h e = pick-no _ _ _ _ (le-ltb 64 rows r) (pick-yes _ _ _ _ (lt-ltb 80 n h) e)
-
-      module _ (c : n ≤ 80) where
-        shaped : v ≡ cond (ltb (length m) (rows * n)) nine (cond (ltb (length w) (rows * n)) nine (cond (ltb (length out) (n * n)) nine done)) → v ≡ checked three nine done
-        unfolding checked
-        shaped e = pick-no _ _ _ _ (le-ltb 64 rows r) (pick-no _ _ _ _ (le-ltb 80 n c) e)
-
-        pub short-matrix : length m < rows * n → v ≡ nine → v ≡ checked three nine done
-        short-matrix h e = shaped (pick-yes _ _ _ _ (lt-ltb _ _ h) e)
-
-        pub short-work : rows * n ≤ length m → length w < rows * n → v ≡ nine → v ≡ checked three nine done
-        short-work a h e = shaped (pick-no _ _ _ _ (le-ltb _ _ a) (pick-yes _ _ _ _ (lt-ltb _ _ h) e))
-
-        pub short-output : rows * n ≤ length m → rows * n ≤ length w → length out < n * n → v ≡ nine → v ≡ checked three nine done
-        short-output a b h e = shaped (pick-no _ _ _ _ (le-ltb _ _ a) (pick-no _ _ _ _ (le-ltb _ _ b) (pick-yes _ _ _ _ (lt-ltb _ _ h) e)))
-
-        pub carried-out : rows * n ≤ length m → rows * n ≤ length w → n * n ≤ length out → v ≡ done → v ≡ checked three nine done
-        carried-out a b h e = shaped (pick-no _ _ _ _ (le-ltb _ _ a) (pick-no _ _ _ _ (le-ltb _ _ b) (pick-no _ _ _ _ (le-ltb _ _ h) e)))
 
 -- the matrix that the call is about, decomposed; `null_space`'s pair, and its vectors one after another
 abbrev pub decomposedOf : ℕ → ℕ → List Float → Qr

@@ -7,7 +7,7 @@ use native.Mathlib.Omega.{arith}
 use borrow.Author.Tests.{leb-true, leb-false, le-leb, lt-leb}
 use lib.Dec.{leb}
 use lib.ListN.{length}
-use Rattle.loops.specs.Picks.{both}
+use Rattle.loops.proofs.Picks.{both}
 use Rattle.spelling.specs.declared.Cursor.{Cursor}
 use Rattle.replay.specs.Judged.{sameBytes, answered}
 use Rattle.replay.specs.Records.{Within, part, placed, recordAt}

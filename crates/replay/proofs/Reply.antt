@@ -6,14 +6,15 @@ use Prim.Native.Nat.{ℕ, _≤_, _<_}
 use native.Mathlib.Omega.{arith}
 use lib.Ieee.{Float}
 use lib.ListN.{length, take}
-use Rattle.reply.specs.Promise.{written-first}
+use Rattle.reply.proofs.Written.{written-first}
 use Rattle.reply.proofs.Short.{short}
 use Rattle.run.specs.Promise.{Runs, replyBuild, replyBy, replyTo}
 use Rattle.sketch.specs.declared.Build.{Build}
 use Rattle.text.specs.Reader.{readOf}
 use Rattle.text.specs.declared.Outcome.{Outcome}
 use Rattle.text.specs.declared.Outcome.the-variants.{Read, Ends}
-use Rattle.replay.specs.Judged.{area, answered, sameBytes, same-exactly}
+use Rattle.replay.specs.Judged.{area, answered, sameBytes}
+use Rattle.replay.proofs.Same.{same-exactly}
 
 reply-short : (p q r : List Float) (o : Outcome) (b : Build) → length (replyBy p q r o b) ≤ 8192
 unfolding replyBuild

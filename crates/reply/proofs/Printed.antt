@@ -12,7 +12,7 @@ use lib.ListN.{length, getD, List·getD-append}
 use Rattle.answer.specs.Endings.{blankGroup}
 use Rattle.answer.specs.declared.Answer.{Answer}
 use Rattle.answer.specs.declared.GroupFit.{GroupFit}
-use Rattle.loops.specs.Parts.{get-past}
+use Rattle.loops.proofs.Parts.{get-past}
 use Rattle.sketch.specs.Check.{numberOf}
 use Rattle.sketch.specs.declared.Ending.{Ending}
 use Rattle.sketch.specs.declared.Ending.the-variants.{Fitted, TooLong, BadForm, TooMany, OutOfBounds, NoSuchItem, TooManyRows, NotConverged, TooShort}

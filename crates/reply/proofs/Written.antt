@@ -3,10 +3,11 @@ use Prim.Native.Nat.{ℕ, suc, _+_, _≤_, _<_}
 use mathlib.Core.List.{List, [], _∷_, _++_, append-nil, append-assoc}
 use mathlib.Core.Path.{_≡_, refl, sym, _∙_}
 use native.Mathlib.Nat.{add-zero, not-suc-le-zero, le-of-suc-le-suc}
-use native.Mathlib.Omega.{arith}
 use borrow.Author.Tests.{lt-ltb, le-leb, lt-leb}
-use lib.ListN.{length, length-append, set, drop}
-use Rattle.loops.specs.Parts.{set-past}
+use lib.ListN.{length, length-append, set, drop, take}
+use native.Mathlib.Omega.{arith}
+use lib.Seq.{take-at}
+use Rattle.loops.proofs.Parts.{set-past}
 use Rattle.loops.specs.Turns.{fold}
 use Rattle.reply.specs.Laid.{laid, nextByte, laying}
 use Rattle.reply.specs.Promise.{writtenOf}
@@ -58,3 +59,8 @@ room bs r n s t h e k q =
 pub no-room : (bs : List ℕ) (n : ℕ) (s : List ℕ) → n ≡ length bs → length s < n → s ≡ writtenOf bs s
 unfolding writtenOf
 no-room bs n s e h = rw (lt-leb (length bs) (length s) (omega arith))
+
+-- where it has room it starts with them
+pub written-first : (bs s : List ℕ) (n : ℕ) → n ≡ length bs → n ≤ length s → take n (writtenOf bs s) ≡ bs
+unfolding writtenOf
+written-first bs s n e h = rw (le-leb (length bs) (length s) (omega arith)) (take-at bs (drop (length bs) s) n (sym e))

@@ -8,12 +8,12 @@ use lib.ListN.{set}
 use Rattle.loops.specs.Turns.{fold}
 
 -- how many bytes are laid so far, and what is in the slice
-pub data Laid : Type 0 where
-  laid : ℕ → List ℕ → Laid
+pub data LaidBytes : Type 0 where
+  laid : ℕ → List ℕ → LaidBytes
 
 -- one byte more; past 8,192 there is none, so that the count fits whatever is laid (no reply is that long, `short`)
-unfoldable pub nextByte : Laid → ℕ → Laid
+unfoldable pub nextByte : LaidBytes → ℕ → LaidBytes
 nextByte (laid n s) b = cond (ltb n 8192) (laid (n + 1) (set s n b)) (laid n s)
 
-abbrev pub laying : List ℕ → Laid → Laid
+abbrev pub laying : List ℕ → LaidBytes → LaidBytes
 laying bs s = fold nextByte s bs

@@ -1,14 +1,11 @@
 -- What `write` promises.
 use mathlib.Core.Bool.{cond}
 use mathlib.Core.List.{List, _++_}
-use mathlib.Core.Path.{_≡_, sym}
-use Prim.Native.Nat.{ℕ, _≤_}
-use native.Mathlib.Omega.{arith}
-use borrow.Author.Tests.{le-leb}
+use mathlib.Core.Path.{_≡_}
+use Prim.Native.Nat.{ℕ}
 use lib.Dec.{leb}
 use lib.Ieee.{Float}
-use lib.ListN.{length, take, drop}
-use lib.Seq.{take-at}
+use lib.ListN.{length, drop}
 use Rattle.answer.specs.declared.Answer.{Answer}
 use Rattle.floats.specs.Only.{only-answer}
 use Rattle.reply.specs.Reply.{replyOf}
@@ -16,11 +13,6 @@ use Rattle.reply.specs.Reply.{replyOf}
 -- what is written to a slice: the bytes at its head where it has room for them all, and else nothing
 unfoldable pub writtenOf : List ℕ → List ℕ → List ℕ
 writtenOf bs s = cond (leb (length bs) (length s)) (bs ++ drop (length bs) s) s
-
--- where it has room it starts with them
-pub written-first : (bs s : List ℕ) (n : ℕ) → n ≡ length bs → n ≤ length s → take n (writtenOf bs s) ≡ bs
-unfolding writtenOf
-written-first bs s n e h = rw (le-leb (length bs) (length s) (omega arith)) (take-at bs (drop (length bs) s) n (sym e))
 
 -- r is the reply's length, and s′ what becomes of the lent slice s
 pub record Writes (a : Answer) (out : List Float) (points measures : ℕ) (s s′ : List ℕ) (r : ℕ) : Type 0 where

@@ -5,7 +5,7 @@ use mathlib.Core.Path.{_≡_}
 use lib.Ieee.{Float}
 use Rattle.loops.specs.Numbers as number
 use Rattle.solver.specs.declared.Elimination.{Elimination}
-use Rattle.solver.specs.declared.Elimination.the-variants.{Solved, None, TooMany, TooShort}
+use Rattle.solver.specs.declared.Elimination.the-variants.{Some, None, TooMany, TooShort}
 use Rattle.solver.specs.Promise.{answerOf, matrixAfter, rightAfter}
 use Rattle.nullspace.specs.declared.NullSpace.{NullSpace}
 use Rattle.nullspace.specs.declared.NullSpace.the-variants as nullspace
@@ -13,7 +13,7 @@ use Rattle.nullspace.specs.Promise as spanned
 
 -- document 01's number for a refusal, and 0 or 255 where the call is carried out
 abbrev pub codeOf : Elimination → ℕ
-codeOf Solved = number.fitted
+codeOf Some = number.fitted
 codeOf None = 255
 codeOf TooMany = number.tooMany
 codeOf TooShort = number.tooShort

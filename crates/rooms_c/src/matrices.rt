@@ -17,7 +17,7 @@ fn code(e: Elimination) -> u8
     ensures { λ r. ⌜ r ≡ codeOf e ⌝ }
 {
     match e {
-        Elimination::Solved => 0,
+        Elimination::Some => 0,
         Elimination::None => 255,
         Elimination::TooMany => 3,
         Elimination::TooShort => 9,

@@ -18,9 +18,9 @@ use Rattle.root.proofs.Value.{bits-positive, root-positive, positive-bi
 -- no second value satisfies it
 pub rounded-unique : (x r s : Float) → Rounded x r → Rounded x s → r ≡ s
 rounded-unique x r s p q =
-    sym (ofBits-toBits binary64 r (p .held))
+    sym (ofBits-toBits binary64 r (p .in-format))
     ∙ ap (ofBits binary64) (near-unique (count (toBits binary64 x) * 2 ^ 1076) (toBits binary64 r) (toBits binary64 s) (p .lower, p .upper) (q .lower, q .upper))
-    ∙ ofBits-toBits binary64 s (q .held)
+    ∙ ofBits-toBits binary64 s (q .in-format)
 
 -- ---- the pattern that is found
 
@@ -58,7 +58,7 @@ rounded x p h =
     subst⁻¹ (Rounded x) (root-positive x p)
     (record {
       is-finite = positive-finite (ofBits binary64 b) q;
-      held = ofBits-fits binary64 b;
+      in-format = ofBits-fits binary64 b;
       lower = subst⁻¹ (Low y) e (f .0 .0);
       upper = subst⁻¹ (λ (c : ℕ). y < halfway (c + 1) * halfway (c + 1)) e (f .0 .1);
     })

@@ -9,6 +9,6 @@ use Rattle.root.specs.Root.{count, halfway}
 -- The halfway points are in units of 2 ^ -1075 and x in units of 2 ^ -1074. Both are strict, so that no tie occurs.
 pub record Rounded (x r : Float) : Type 0 where
   pub is-finite : T (finite r)
-  pub held : T (fits binary64 r)
+  pub in-format : T (fits binary64 r)
   pub lower : halfway (toBits binary64 r) * halfway (toBits binary64 r) < count (toBits binary64 x) * 2 ^ 1076
   pub upper : count (toBits binary64 x) * 2 ^ 1076 < halfway (toBits binary64 r + 1) * halfway (toBits binary64 r + 1)

@@ -18,9 +18,9 @@ use Rattle.rows.specs.Column.{laid, laidIn}
 use Rattle.slopes.specs.Dense.{jacobianOf}
 use Rattle.sketch.specs.declared.Active.{Active}
 use Rattle.sketch.specs.declared.Line.{Line}
-use Rattle.rounds.specs.Column.{table-is}
+use Rattle.rounds.proofs.Column.{table-is}
 use Rattle.rounds.specs.Held.{begunFit, largestIn, polishedFit, stepBy, stepOf, endedOf}
-use Rattle.rounds.specs.Holds.{round-own}
+use Rattle.rounds.proofs.Holding.{round-own}
 use Rattle.rounds.specs.Problem.{rowCount, jacobianAt, stateOf, triedOf}
 use Rattle.rounds.specs.Solve.{Problem, State, Trial, Tried, Outcome, converged, within, judged, trialOf, tryOf, triesOf, orNext, better, taken, harder, begun, roundOf, roundsOf, ended, decided}
 use Rattle.rounds.specs.declared.Attempted.{Attempted}

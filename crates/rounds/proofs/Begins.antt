@@ -17,13 +17,13 @@ use Rattle.rows.specs.Column.{Laid, laid, columnOf, laidIn}
 use Rattle.sketch.specs.declared.Active.{Active}
 use Rattle.sketch.specs.declared.Line.{Line}
 use Rattle.solver.specs.Sums.{norm2Of}
-use Rattle.rounds.specs.Column.{column-is, values-long, rows-few}
+use Rattle.rounds.proofs.Column.{column-is, values-long, rows-few}
 use Rattle.rounds.specs.Held.{Begun, startedFit, endedOf}
 use Rattle.rounds.specs.Problem.{rowCount, valuesAt, jacobianAt, problemOf, stateOf}
 use Rattle.rounds.specs.Promise.{saying, answerOf, outcomeOf, tooMany, tooShort, zeroed, Solves}
 use Rattle.rounds.specs.Solve.{Problem, Outcome, converged, failed, within, roundsOf, solveOf}
 use Rattle.rounds.specs.declared.Ended.{Ended}
-use Rattle.rounds.specs.declared.Ending.the-variants.{TooMany, TooShort}
+use Rattle.rounds.specs.declared.FitEnding.the-variants.{TooMany, TooShort}
 use Rattle.rounds.specs.declared.Fit.{Fit}
 use Rattle.rounds.specs.declared.Solved.{Solved}
 use Rattle.rounds.proofs.Trials.{copied-whole}

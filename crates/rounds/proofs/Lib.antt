@@ -2,3 +2,5 @@ pub mod Trials
 pub mod Turn
 pub mod Around
 pub mod Begins
+pub mod Column
+pub mod Holding

@@ -15,7 +15,7 @@ use Rattle.rows.specs.Column.{laid, columnOf, laidIn}
 use Rattle.sketch.specs.declared.Active.{Active}
 use Rattle.sketch.specs.declared.Line.{Line}
 use Rattle.solver.specs.Sums.{norm2Of}
-use Rattle.rounds.specs.Column.{column-is}
+use Rattle.rounds.proofs.Column.{column-is}
 use Rattle.rounds.specs.Held.{trialMade, takenFit, harderFit, Shapes}
 use Rattle.rounds.specs.Problem.{rowCount, valuesAt, stateOf, triedOf}
 use Rattle.rounds.specs.Solve.{Problem, State, Trial, Tried, judged, trialOf, tryOf, triesOf, orNext, better, taken, harder}

@@ -13,7 +13,7 @@ use Rattle.sketch.specs.declared.Active.{Active}
 use Rattle.sketch.specs.declared.Line.{Line}
 use Rattle.solver.specs.Sums.{norm2Of}
 use Rattle.solver.specs.declared.Elimination.{Elimination}
-use Rattle.solver.specs.declared.Elimination.the-variants.{Solved, None, TooMany, TooShort}
+use Rattle.solver.specs.declared.Elimination.the-variants.{Some, None, TooMany, TooShort}
 use Rattle.rounds.specs.Problem.{rowCount, valuesAt}
 use Rattle.rounds.specs.Solve.{Trial, Outcome, converged, failed}
 use Rattle.rounds.specs.declared.Attempted.{Attempted}
@@ -42,7 +42,7 @@ polishedFit f = record { cost = f .cost; mu = f .mu; polish = f .polish - 1; ite
 
 -- what an elimination's answer is to an attempt
 abbrev pub isSolved : Elimination → Bool
-isSolved Solved = true
+isSolved Some = true
 isSolved None = false
 isSolved TooMany = false
 isSolved TooShort = false

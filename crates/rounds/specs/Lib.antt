@@ -1,6 +1,5 @@
 pub mod Solve
 pub mod Holds
 pub mod Problem
-pub mod Column
 pub mod Held
 pub mod Promise

@@ -15,15 +15,15 @@ use Rattle.sketch.specs.declared.Line.{Line}
 use Rattle.rounds.specs.Problem.{rowCount, jacobianAt, problemOf}
 use Rattle.rounds.specs.Solve.{Outcome, converged, failed, solveOf}
 use Rattle.rounds.specs.declared.Ended.{Ended}
-use Rattle.rounds.specs.declared.Ending.{Ending}
-use Rattle.rounds.specs.declared.Ending.the-variants.{Converged, Failed, TooMany, TooShort}
+use Rattle.rounds.specs.declared.FitEnding.{FitEnding}
+use Rattle.rounds.specs.declared.FitEnding.the-variants.{Converged, Failed, TooMany, TooShort}
 use Rattle.rounds.specs.declared.Solved.{Solved}
 
 -- the first k places of an area are +0.0, the rest is as it was
 abbrev pub zeroed : ℕ → List Float → List Float
 zeroed k a = replicate k zero⁺ ++ drop k a
 
-abbrev pub saying : Ending → ℕ → ℕ → Solved
+abbrev pub saying : FitEnding → ℕ → ℕ → Solved
 saying e i t = record { ending = e; iterations = i; tries = t }
 
 -- what a fit's outcome is to the caller: document 01's "converged" with its counts, or a failure with its counts
@@ -36,7 +36,7 @@ answeredBy (failed i t) = saying Failed i t
 abbrev pub meaningOf : List Float → Solved → Meaning (List Float × ℕ × ℕ)
 meaningOf x′ s = by (s .ending)
   where
-    by : Ending → Meaning (List Float × ℕ × ℕ)
+    by : FitEnding → Meaning (List Float × ℕ × ℕ)
     by Converged = values (x′, s .iterations, s .tries)
     by Failed = refused notConverged
     by TooMany = refused number.tooMany
@@ -46,7 +46,7 @@ abbrev pub meant : Outcome → Meaning (List Float × ℕ × ℕ)
 meant (converged x i t) = values (x, i, t)
 meant (failed i t) = refused notConverged
 
-abbrev pub convergedBy : Ending → Bool
+abbrev pub convergedBy : FitEnding → Bool
 convergedBy Converged = true
 convergedBy Failed = false
 convergedBy TooMany = false

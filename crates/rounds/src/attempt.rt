@@ -16,7 +16,7 @@ fn is_solved(e: Elimination) -> bool
     ensures { λ r. ⌜ r ≡ isSolved e ⌝ }
 {
     match e {
-        Elimination::Solved => true,
+        Elimination::Some => true,
         Elimination::None => false,
         Elimination::TooMany => false,
         Elimination::TooShort => false,

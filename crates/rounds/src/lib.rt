@@ -38,7 +38,7 @@ pub(crate) struct Ended {
 }
 
 // What a call came to. A refusal changes nothing that is lent.
-pub enum Ending {
+pub enum FitEnding {
     Converged,
     // No coordinates are handed out.
     Failed,
@@ -49,18 +49,18 @@ pub enum Ending {
 }
 
 pub struct Solved {
-    pub ending: Ending,
+    pub ending: FitEnding,
     pub iterations: usize,
     pub tries: usize,
 }
 
-pub fn converged(ending: Ending) -> bool
+pub fn converged(ending: FitEnding) -> bool
     ensures { λ t. ⌜ t ≡ convergedBy ending ⌝ }
 {
     match ending {
-        Ending::Converged => true,
-        Ending::Failed => false,
-        Ending::TooMany => false,
-        Ending::TooShort => false,
+        FitEnding::Converged => true,
+        FitEnding::Failed => false,
+        FitEnding::TooMany => false,
+        FitEnding::TooShort => false,
     }
 }

@@ -7,8 +7,8 @@ ghost use Rattle.rounds.specs.Problem.{rowCount, jacobianAt, problemOf};
 ghost use Rattle.rounds.specs.Promise.{Solves, outcomeOf, zeroed, answerOf, saying};
 ghost use Rattle.rounds.specs.Solve.{solveOf};
 use crate::Ended;
-use crate::Ending;
 use crate::Fit;
+use crate::FitEnding;
 use crate::Solved;
 use crate::round::all_rounds;
 use crate::round::within;
@@ -147,19 +147,19 @@ fn answer(e: Ended) -> Solved
     let fit = e.fit;
     if e.converged {
         return Solved {
-            ending: Ending::Converged,
+            ending: FitEnding::Converged,
             iterations: fit.iterations,
             tries: fit.tries,
         };
     }
     Solved {
-        ending: Ending::Failed,
+        ending: FitEnding::Failed,
         iterations: fit.iterations,
         tries: fit.tries,
     }
 }
 
-fn refused(ending: Ending) -> Solved
+fn refused(ending: FitEnding) -> Solved
     ensures { λ s. ⌜ s ≡ saying ending 0 0 ⌝ }
 {
     Solved {
@@ -186,10 +186,10 @@ pub fn solve(
         (now (x .exit)) (now (a .exit)) (now (b .exit)) (now (c .exit)) s ⌝ }
 {
     if (40 < chosen.len()) | (80 < free.len()) | (80 < x.len()) {
-        return refused(Ending::TooMany);
+        return refused(FitEnding::TooMany);
     }
     if (a.len() < 6400) | (b.len() < 6400) | (c.len() < 6400) {
-        return refused(Ending::TooShort);
+        return refused(FitEnding::TooShort);
     }
     let n = x.len();
     let mut here = [0.0; 80];

@@ -13,7 +13,8 @@ use Rattle.sketch.specs.declared.Equation.{Equation}
 use Rattle.sketch.specs.declared.Line.{Line}
 use Rattle.sketch.specs.declared.LineNo.{LineNo}
 use Rattle.sketch.specs.declared.PointNo.{PointNo}
-use Rattle.rows.specs.Ends.{linesOf, placeOf, endOf, foundOf, rowsGiven, given}
+use Rattle.rows.specs.Ends.{lineNosOf, placeOf, endOf, foundOf, rowsGiven}
+use Rattle.rows.proofs.Given.{given}
 use Rattle.rows.specs.Kinds.{rowsOfEquation}
 use Rattle.rows.specs.declared.Ends.{Ends}
 use Rattle.rows.specs.declared.LineNos.{LineNos}
@@ -27,6 +28,6 @@ module _ (ls : List Line) (h : length ls ≡ 40) (d : Line) where
       go true p = let q : l .0 < 40 = ltb-true _ _ p in rw p (any-default ls (l .0) d noLine (omega arith))
       go false p = let q : 40 ≤ l .0 = ltb-false _ _ p in rw p (sym (List·getD-eq-default ls noLine {n = l .0} (omega arith)))
 
-  pub found-rows : (at : PointNo → Vec2) (e : Equation) (n : LineNos) (i j : ℕ) (s : Ends) → n ≡ linesOf e → i ≡ placeOf (n .first) → j ≡ placeOf (n .second)
+  pub found-rows : (at : PointNo → Vec2) (e : Equation) (n : LineNos) (i j : ℕ) (s : Ends) → n ≡ lineNosOf e → i ≡ placeOf (n .first) → j ≡ placeOf (n .second)
       → s ≡ foundOf n (getD ls i d) (getD ls j d) → rowsGiven s at e ≡ rowsOfEquation ls at e
-  found-rows at e n i j s p q r t = rw (t, q, r, p, end-found (linesOf e .first), end-found (linesOf e .second)) (given ls at e)
+  found-rows at e n i j s p q r t = rw (t, q, r, p, end-found (lineNosOf e .first), end-found (lineNosOf e .second)) (given ls at e)

@@ -5,16 +5,17 @@ use mathlib.Core.Path.{_≡_, refl, sym, ap, _∙_}
 use native.Mathlib.Omega.{arith}
 use lib.Ieee.{Float}
 use lib.ListN.{length, set, getD, drop, List·getD-eq-default}
-use Rattle.loops.specs.Turns.{fold, fold-next}
+use Rattle.loops.specs.Turns.{fold}
+use Rattle.loops.proofs.Turning.{fold-next}
 use Rattle.sketch.specs.declared.Active.{Active}
 use Rattle.sketch.specs.declared.Equation.{Equation}
 use Rattle.sketch.specs.declared.Line.{Line}
-use Rattle.rows.specs.Column.{Laid, laid, heldActive, equationAt, nextValue, rowsAt, valuesNext}
+use Rattle.rows.specs.Column.{Laid, laid, equationAt, nextValue, rowsAt, valuesNext}
+use Rattle.sketch.specs.Blank.{blankActive}
 use Rattle.rows.specs.Entries.{Row, valuesOf}
 use Rattle.rows.specs.Kinds.{rowsOfEquation}
 use Rattle.rows.specs.Located.{atOf}
 use Rattle.rows.specs.declared.answer.Values.{Values}
-use Rattle.rows.proofs.Bounded.{Bounded}
 
 module _ (row : ℕ) (r : List Float) where
   pub no-values : (rs : List Row) (v : Values) → v ≡ valuesOf rs → v .count ≡ 0 → laid row r ≡ fold nextValue (laid row r) rs
@@ -30,19 +31,19 @@ module _ (row : ℕ) (r : List Float) where
   one-value (a ∷ b ∷ rs) v r′ e h q =
       absurd (let z : suc (suc (length rs)) ≡ 1 = sym (ap (λ (w : Values). w .count) e) ∙ h in omega arith)
 
-  pub two-values : (rs : List Row) (v : Values) (r′ r″ : List Float) → Bounded rs → v ≡ valuesOf rs → (v .count ≡ 0 → ⊥) → (v .count ≡ 1 → ⊥)
+  pub two-values : (rs : List Row) (v : Values) (r′ r″ : List Float) → length rs ≤ 2 → v ≡ valuesOf rs → (v .count ≡ 0 → ⊥) → (v .count ≡ 1 → ⊥)
       → r′ ≡ set r row (v .first) → r″ ≡ set r′ (row + 1) (v .second) → laid (row + 1 + 1) r″ ≡ fold nextValue (laid row r) rs
   unfolding fold valuesOf nextValue
   two-values [] v r′ r″ b e h k q p = absurd (h (ap (λ (w : Values). w .count) e))
   two-values (a ∷ []) v r′ r″ b e h k q p = absurd (k (ap (λ (w : Values). w .count) e))
   two-values (a ∷ c ∷ []) v r′ r″ b e h k q p = rw (p, q, e)
-  two-values (a ∷ c ∷ d ∷ rs) v r′ r″ b e h k q p = absurd (let z = b .rows in omega arith)
+  two-values (a ∷ c ∷ d ∷ rs) v r′ r″ b e h k q p = absurd (omega (arith, b))
 
 -- ---- a turn of the loop over the chosen equations
 
 -- past the last equation there is `Held`
-pub held : (es : List Active) (k : ℕ) → length es ≤ k → Equation.Held ≡ equationAt es k
-held es k h = sym (ap (λ (a : Active). a .equation) (List·getD-eq-default es heldActive {n = k} h))
+pub past-is-held : (es : List Active) (k : ℕ) → length es ≤ k → Equation.Held ≡ equationAt es k
+past-is-held es k h = sym (ap (λ (a : Active). a .equation) (List·getD-eq-default es blankActive {n = k} h))
 
 module _ (es : List Active) (ls : List Line) (P : List ℕ) (x : List Float) (chosen : List ℕ) (i : ℕ) (h : i < length chosen) where
   pub values-turn : (row row′ : ℕ) (r r′ : List Float) (e : Equation) (R : Laid) → e ≡ equationAt es (getD chosen i 0)
@@ -57,4 +58,4 @@ module _ (es : List Active) (ls : List Line) (P : List ℕ) (x : List Float) (ch
 
   pub values-past : (row : ℕ) (r : List Float) (R : Laid) → length es ≤ getD chosen i 0
       → fold (valuesNext es ls P x) (laid row r) (drop i chosen) ≡ R → fold (valuesNext es ls P x) (laid row r) (drop (i + 1) chosen) ≡ R
-  values-past row r R k t = values-turn row row r r Equation.Held R (held es _ k) (no-value row r) t
+  values-past row r R k t = values-turn row row r r Equation.Held R (past-is-held es _ k) (no-value row r) t

@@ -2,3 +2,4 @@ pub mod Bounded
 pub mod Found
 pub mod Held
 pub mod Within
+pub mod Given

@@ -10,6 +10,7 @@ use Rattle.loops.specs.Turns.{fold}
 use Rattle.sketch.specs.declared.Active.{Active}
 use Rattle.sketch.specs.declared.Equation.{Equation}
 use Rattle.sketch.specs.declared.Line.{Line}
+use Rattle.sketch.specs.Blank.{blankActive}
 use Rattle.rows.specs.Located.{atOf}
 use Rattle.rows.specs.Entries.{Row}
 use Rattle.rows.specs.Kinds.{rowsOfEquation}
@@ -28,11 +29,8 @@ nextValue (laid i r) row = laid (i + 1) (set r i (row .value))
 
 -- ---- a list of equations by their numbers
 
-abbrev pub heldActive : Active
-heldActive = record { equation = Equation.Held }
-
 abbrev pub equationAt : List Active → ℕ → Equation
-equationAt es k = getD es k heldActive .equation
+equationAt es k = getD es k blankActive .equation
 
 module _ (es : List Active) (ls : List Line) (places : List ℕ) (x : List Float) where
   unfoldable pub rowsAt : ℕ → List Row

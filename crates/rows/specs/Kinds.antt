@@ -54,8 +54,8 @@ abbrev pub plus : Vec2 → Vec2 → Vec2
 plus a b = vec (a .x ⊕ b .x) (a .y ⊕ b .y)
 
 -- v[axis]: 0 for X, 1 for Y
-abbrev pub along : ℕ → Vec2 → Float
-along axis v = cond (eqb axis 0) (v .x) (v .y)
+abbrev pub alongAxis : ℕ → Vec2 → Float
+alongAxis axis v = cond (eqb axis 0) (v .x) (v .y)
 
 -- the Rust's d with d[axis] = v
 abbrev pub onAxis : ℕ → Float → Vec2
@@ -106,9 +106,9 @@ module _ (at : PointNo → Vec2) where
       ∷ emit (at a .y ⊖ at b .y) (entry a (vec zero⁺ one) ∷ entry b (vec zero⁺ (neg one)) ∷ [])
       ∷ []
 
-  unfoldable pub levelOf : PointNo → PointNo → ℕ → List Row
-  levelOf a b axis =
-      emit (along axis (at b) ⊖ along axis (at a)) (entry a (negOf (onAxis axis one)) ∷ entry b (onAxis axis one) ∷ []) ∷ []
+  unfoldable pub levelKindOf : PointNo → PointNo → ℕ → List Row
+  levelKindOf a b axis =
+      emit (alongAxis axis (at b) ⊖ alongAxis axis (at a)) (entry a (negOf (onAxis axis one)) ∷ entry b (onAxis axis one) ∷ []) ∷ []
 
   unfoldable pub parallelOf : Line → Line → List Row
   parallelOf i j =
@@ -129,9 +129,9 @@ module _ (at : PointNo → Vec2) where
       let a = i .from in
       let c = j .from in
       let q = subOf (at c) (at a) in
-      let up = turnedUp (di .u) in
-      emit (crossOf (di .u) (dj .u)) (through2Of i di (turnedDown (dj .u)) j dj up)
-      ∷ emit (crossOf (di .u) q) (through1Of i di (turnedDown q) ++ entry c up ∷ entry a (negOf up) ∷ [])
+      let along = turnedUp (di .u) in
+      emit (crossOf (di .u) (dj .u)) (through2Of i di (turnedDown (dj .u)) j dj along)
+      ∷ emit (crossOf (di .u) q) (through1Of i di (turnedDown q) ++ entry c along ∷ entry a (negOf along) ∷ [])
       ∷ []
 
   unfoldable pub equalOf : Line → Line → List Row
@@ -150,14 +150,14 @@ module _ (at : PointNo → Vec2) where
   unfoldable pub axisDistanceOf : PointNo → PointNo → ℕ → Float → Float → List Row
   axisDistanceOf a b axis value side =
       let d = onAxis axis side in
-      emit (side ⊗ (along axis (at b) ⊖ along axis (at a)) ⊖ value) (entry b d ∷ entry a (negOf d) ∷ []) ∷ []
+      emit (side ⊗ (alongAxis axis (at b) ⊖ alongAxis axis (at a)) ⊖ value) (entry b d ∷ entry a (negOf d) ∷ []) ∷ []
 
   -- one of the two turns of the Rust's loop over the axes; -0.5 times a zero is -0.0
   abbrev midpointRow : PointNo → Line → ℕ → Row
   midpointRow p l i =
       let d = onAxis i one in
       let less = times (neg half) d in
-      emit (along i (at p) ⊖ half ⊗ (along i (at (l .from)) ⊕ along i (at (l .to))))
+      emit (alongAxis i (at p) ⊖ half ⊗ (alongAxis i (at (l .from)) ⊕ alongAxis i (at (l .to))))
       (entry p d ∷ entry (l .from) less ∷ entry (l .to) less ∷ [])
 
   unfoldable pub midpointOf : PointNo → Line → List Row
@@ -257,7 +257,7 @@ module _ (ls : List Line) (at : PointNo → Vec2) where
 
   unfoldable pub rowsOfEquation : Equation → List Row
   rowsOfEquation (Equation.Coincident a b) = coincidentOf at a b
-  rowsOfEquation (Equation.Level a b axis) = levelOf at a b axis
+  rowsOfEquation (Equation.Level a b axis) = levelKindOf at a b axis
   rowsOfEquation (Equation.Parallel i j) = parallelOf at (line i) (line j)
   rowsOfEquation (Equation.Perpendicular i j) = perpendicularOf at (line i) (line j)
   rowsOfEquation (Equation.Collinear i j) = collinearOf at (line i) (line j)

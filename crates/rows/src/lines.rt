@@ -2,7 +2,7 @@
 // them copies all 40, so an equation's work takes the ends of its own lines alone.
 ghost use mathlib.Core.Path.{_≡_};
 ghost use Prim.Native.Nat.{_<_};
-ghost use Rattle.rows.specs.Ends.{bothOf, onlyOf, neitherOf, linesOf, placeOf, endOf, foundOf};
+ghost use Rattle.rows.specs.Ends.{bothOf, onlyOf, neitherOf, lineNosOf, placeOf, endOf, foundOf};
 use crate::Ends;
 use crate::LineNos;
 use sketch::Equation;
@@ -33,7 +33,7 @@ fn neither() -> LineNos
 
 // The numbers of an equation's lines.
 pub fn lines_of(e: Equation) -> LineNos
-    ensures { λ r. ⌜ r ≡ linesOf e ⌝ }
+    ensures { λ r. ⌜ r ≡ lineNosOf e ⌝ }
 {
     match e {
         Equation::Coincident(_, _) => neither(),

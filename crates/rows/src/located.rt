@@ -41,7 +41,7 @@ pub(crate) fn at(places: &[u8], x: &[f64], p: PointNo) -> Vec2
 }
 
 // The direction from a to b, and the distance.
-pub fn toward(places: &[u8], x: &[f64], a: PointNo, b: PointNo) -> Dir
+pub fn unit_from(places: &[u8], x: &[f64], a: PointNo, b: PointNo) -> Dir
     ensures { λ r. ⌜ r ≡ unitFromOf (atOf (now (places .entry)) (now (x .entry)) a) (atOf (now (places .entry)) (now (x .entry)) b) ⌝ }
 {
     plane::unit_from(at(places, x, a), at(places, x, b))
@@ -73,5 +73,5 @@ pub fn middle(places: &[u8], x: &[f64], p: PointNo, q: PointNo, a: PointNo) -> V
 pub fn dir(places: &[u8], x: &[f64], l: Line) -> Dir
     ensures { λ r. ⌜ r ≡ dirOf (atOf (now (places .entry)) (now (x .entry))) l ⌝ }
 {
-    toward(places, x, l.from, l.to)
+    unit_from(places, x, l.from, l.to)
 }

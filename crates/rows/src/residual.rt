@@ -3,7 +3,7 @@ ghost use mathlib.Core.Path.{_≡_};
 ghost use mathlib.Core.List.{[], _∷_};
 ghost use Rattle.rows.specs.Entries.{valuesOf, emit};
 ghost use Rattle.rows.specs.Ends.{rowsGiven};
-ghost use Rattle.rows.specs.Kinds.{radiusOf, coincidentOf, levelOf, parallelOf, perpendicularOf, collinearOf, equalOf, distanceOf, axisDistanceOf, lengthOf, pointLineOf, arcEndsOf, radiusKindOf, lineCircleOf, circleCircleOf, lineArcAtOf, arcArcAtOf, midpointOf, arcMidpointOf, symmetricOf, equalRadiusOf};
+ghost use Rattle.rows.specs.Kinds.{radiusOf, coincidentOf, levelKindOf, parallelOf, perpendicularOf, collinearOf, equalOf, distanceOf, axisDistanceOf, lengthOf, pointLineOf, arcEndsOf, radiusKindOf, lineCircleOf, circleCircleOf, lineArcAtOf, arcArcAtOf, midpointOf, arcMidpointOf, symmetricOf, equalRadiusOf};
 ghost use Rattle.rows.specs.Located.{atOf};
 use crate::Ends;
 use crate::answer::Values;
@@ -12,7 +12,7 @@ use crate::located::at;
 use crate::located::dir;
 use crate::located::middle;
 use crate::located::offset;
-use crate::located::toward;
+use crate::located::unit_from;
 use crate::vectors::along_axis;
 use crate::vectors::first_sign;
 use crate::vectors::second_sign;
@@ -71,7 +71,7 @@ fn coincident(places: &[u8], x: &[f64], a: PointNo, b: PointNo) -> Values
 }
 
 fn level(places: &[u8], x: &[f64], a: PointNo, b: PointNo, axis: usize) -> Values
-    ensures { λ r. ⌜ r ≡ valuesOf (levelOf (atOf (now (places .entry)) (now (x .entry))) a b axis) ⌝ }
+    ensures { λ r. ⌜ r ≡ valuesOf (levelKindOf (atOf (now (places .entry)) (now (x .entry))) a b axis) ⌝ }
 {
     one(along_axis(axis, at(places, x, b)) - along_axis(axis, at(places, x, a)))
 }
@@ -185,15 +185,15 @@ fn line_arc_at(places: &[u8], x: &[f64], l: Line, c: PointNo, p: PointNo) -> Val
     ensures { λ r. ⌜ r ≡ valuesOf (lineArcAtOf (atOf (now (places .entry)) (now (x .entry))) l c p) ⌝ }
 {
     let d = dir(places, x, l);
-    let w = toward(places, x, c, p);
+    let w = unit_from(places, x, c, p);
     one(plane::dot(d.u, w.u))
 }
 
 fn arc_arc_at(places: &[u8], x: &[f64], c1: PointNo, c2: PointNo, p: PointNo) -> Values
     ensures { λ r. ⌜ r ≡ valuesOf (arcArcAtOf (atOf (now (places .entry)) (now (x .entry))) c1 c2 p) ⌝ }
 {
-    let w1 = toward(places, x, c1, p);
-    let w2 = toward(places, x, c2, p);
+    let w1 = unit_from(places, x, c1, p);
+    let w2 = unit_from(places, x, c2, p);
     one(plane::cross(w1.u, w2.u))
 }
 

@@ -1,6 +1,6 @@
 // The small vectors that the rows write out, each with its own signs: a zero's sign depends on them.
 ghost use mathlib.Core.Path.{_≡_};
-ghost use Rattle.rows.specs.Kinds.{turnedDown, turnedUp, sideDown, sideUp, times, plus, along, onAxis, firstSign, secondSign};
+ghost use Rattle.rows.specs.Kinds.{turnedDown, turnedUp, sideDown, sideUp, times, plus, alongAxis, onAxis, firstSign, secondSign};
 use plane::Vec2;
 use sketch::Contact;
 
@@ -53,7 +53,7 @@ pub fn plus_vec(a: Vec2, b: Vec2) -> Vec2
 }
 
 pub(crate) fn along_axis(axis: usize, v: Vec2) -> f64
-    ensures { λ r. ⌜ r ≡ along axis v ⌝ }
+    ensures { λ r. ⌜ r ≡ alongAxis axis v ⌝ }
 {
     if axis == 0 { v.x } else { v.y }
 }

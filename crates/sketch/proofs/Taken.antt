@@ -7,7 +7,8 @@ use mathlib.Core.Path.{_≡_}
 use borrow.Author.Tests.{not-true, not-false}
 use lib.ListN.{length, getD, take, drop}
 use lib.Seq.{length-take-le, getD-take}
-use Rattle.loops.specs.Turns.{every, every-next, every-stop, every-done}
+use Rattle.loops.specs.Turns.{every}
+use Rattle.loops.proofs.Turning.{every-next, every-stop, every-done}
 
 module _ {A : Type 0} (p : A → Bool) where
   -- the k items are there, and so is item i

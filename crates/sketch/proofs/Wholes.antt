@@ -3,7 +3,7 @@ use mathlib.Core.Bool.{Bool, true, false, _&&_}
 use mathlib.Core.List.{[], _∷_, _++_}
 use mathlib.Core.Path.{_≡_, refl, sym, ap, _∙_}
 use borrow.Author.Tests.{not-false}
-use Rattle.loops.specs.Picks.{both}
+use Rattle.loops.proofs.Picks.{both}
 use Rattle.loops.specs.Turns.{every}
 use Rattle.plane.specs.declared.Vec2.{Vec2}
 use Rattle.sketch.specs.Check.{refersToNothing}

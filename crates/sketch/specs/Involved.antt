@@ -1,5 +1,5 @@
 -- The points an equation touches, in the Rust's order (equations.rs, `involved`): those of its fields one after another, of a line both
--- ends. Held touches none.
+-- ends. Held touches none. And the lines that it names.
 use mathlib.Core.List.{List, [], _∷_, _++_}
 use lib.ListN.{length, getD}
 use Rattle.sketch.specs.Fields.{Field, point, line, value, size, axis, side, radius, contact, equationFields}
@@ -45,7 +45,26 @@ pointsAmong ls (f ∷ fs) = pointsIn ls f ++ pointsAmong ls fs
 abbrev pub involvedOf : List Line → Equation → List PointNo
 involvedOf ls e = pointsAmong ls (equationFields e)
 
--- such a list as the code hands it out: at most four points, and point 0 in the places past them
+-- the numbers of the lines among the fields
+abbrev pub linesIn : Field → List LineNo
+linesIn (point p) = []
+linesIn (line l) = l ∷ []
+linesIn (value v) = []
+linesIn (size v) = []
+linesIn (axis a) = []
+linesIn (side s) = []
+linesIn (radius r) = []
+linesIn (contact k) = []
+
+abbrev pub linesAmong : List Field → List LineNo
+linesAmong [] = []
+linesAmong (f ∷ fs) = linesIn f ++ linesAmong fs
+
+-- the lines that an equation names
+abbrev pub linesNamed : Equation → List LineNo
+linesNamed e = linesAmong (equationFields e)
+
+-- a list of points as the code hands it out: at most four points, and point 0 in the places past them
 abbrev pub touchedOf : List PointNo → Touched
 touchedOf ps = record {
   points = getD ps 0 noPoint ∷ getD ps 1 noPoint ∷ getD ps 2 noPoint ∷ getD ps 3 noPoint ∷ [];

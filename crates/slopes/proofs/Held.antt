@@ -6,7 +6,8 @@ use native.Mathlib.Nat.{add-mul, mul-le-mul-right}
 use native.Mathlib.Omega.{arith}
 use lib.Ieee.{Float}
 use lib.ListN.{length, getD, drop}
-use Rattle.loops.specs.Turns.{fold, fold-next}
+use Rattle.loops.specs.Turns.{fold}
+use Rattle.loops.proofs.Turning.{fold-next}
 use Rattle.sketch.specs.declared.Active.{Active}
 use Rattle.sketch.specs.declared.Equation.{Equation}
 use Rattle.sketch.specs.declared.Line.{Line}
@@ -14,8 +15,7 @@ use Rattle.rows.specs.Column.{Laid, laid, equationAt, rowsAt}
 use Rattle.rows.specs.Entries.{Row}
 use Rattle.rows.specs.Kinds.{rowsOfEquation}
 use Rattle.rows.specs.Located.{atOf}
-use Rattle.rows.proofs.Bounded.{Bounded}
-use Rattle.rows.proofs.Held.{held}
+use Rattle.rows.proofs.Held.{past-is-held}
 use Rattle.slopes.specs.Arms.{rowsFrom, rowsInto}
 use Rattle.slopes.specs.Dense.{nextRow, rowInto, rowsNext}
 use Rattle.slopes.specs.declared.dense.Into.{Into}
@@ -57,9 +57,9 @@ module _ (P C : List ℕ) (n : ℕ) where
     unfolding after fold
     rows-laid = ap (after row) h ∙ rows-from row (row * n) j rs refl
 
-    pub few : Bounded rs → m ≤ 2
+    pub few : length rs ≤ 2 → m ≤ 2
     unfolding count
-    few b = let e : m ≡ length rs = ap count h in rw e (b .rows)
+    few b = let e : m ≡ length rs = ap count h in rw e b
 
 -- ---- a turn of the loop over the chosen equations
 
@@ -76,4 +76,4 @@ module _ (es : List Active) (ls : List Line) (P : List ℕ) (x : List Float) (ch
 
   pub rows-past : (C : List ℕ) (n row : ℕ) (j : List Float) (R : Laid) → length es ≤ getD chosen i 0
       → fold (rowsNext es ls P x C n) (laid row j) (drop i chosen) ≡ R → fold (rowsNext es ls P x C n) (laid row j) (drop (i + 1) chosen) ≡ R
-  rows-past C n row j R k t = rows-turn C n row row j j Equation.Held R (held es _ k) (no-row C n row j) t
+  rows-past C n row j R k t = rows-turn C n row row j j Equation.Held R (past-is-held es _ k) (no-row C n row j) t

@@ -5,7 +5,7 @@ ghost use Prim.Native.Nat.{_≤_};
 ghost use Rattle.floats.specs.Ops.{zero⁺};
 ghost use Rattle.rows.specs.Column.{laid};
 ghost use Rattle.rows.specs.Ends.{rowsGiven};
-ghost use Rattle.rows.specs.Kinds.{nowhere, coincidentOf, levelOf, parallelOf, perpendicularOf, collinearOf, equalOf, distanceOf, axisDistanceOf, lengthOf, pointLineOf, arcEndsOf, radiusKindOf, lineCircleOf, circleCircleOf, lineArcAtOf, arcArcAtOf, midpointOf, arcMidpointOf, symmetricOf, equalRadiusOf};
+ghost use Rattle.rows.specs.Kinds.{nowhere, coincidentOf, levelKindOf, parallelOf, perpendicularOf, collinearOf, equalOf, distanceOf, axisDistanceOf, lengthOf, pointLineOf, arcEndsOf, radiusKindOf, lineCircleOf, circleCircleOf, lineArcAtOf, arcArcAtOf, midpointOf, arcMidpointOf, symmetricOf, equalRadiusOf};
 ghost use Rattle.rows.specs.Located.{atOf};
 ghost use Rattle.slopes.specs.Arms.{rowsInto};
 use crate::dense::Into;
@@ -21,7 +21,7 @@ use rows::Ends;
 use rows::located::dir;
 use rows::located::middle;
 use rows::located::offset;
-use rows::located::toward;
+use rows::located::unit_from;
 use rows::vectors::first_sign;
 use rows::vectors::on_axis;
 use rows::vectors::plus_vec;
@@ -68,7 +68,7 @@ fn level(
     axis: usize,
 ) -> usize
     requires { ⌜ (to .base ≤ 6320) × (to .n ≤ 80) ⌝ }
-    ensures { λ m. ⌜ laid m (now (jac .exit)) ≡ rowsInto (now (places .entry)) (now (columns .entry)) to (now (jac .entry)) (levelOf nowhere a b axis) ⌝ }
+    ensures { λ m. ⌜ laid m (now (jac .exit)) ≡ rowsInto (now (places .entry)) (now (columns .entry)) to (now (jac .entry)) (levelKindOf nowhere a b axis) ⌝ }
 {
     let d = on_axis(axis, 1.0);
     clear_row(jac, to);
@@ -192,7 +192,7 @@ fn distance(
     requires { ⌜ (to .base ≤ 6320) × (to .n ≤ 80) ⌝ }
     ensures { λ m. ⌜ laid m (now (jac .exit)) ≡ rowsInto (now (places .entry)) (now (columns .entry)) to (now (jac .entry)) (distanceOf (atOf (now (places .entry)) (now (x .entry))) a b zero⁺) ⌝ }
 {
-    let d = toward(places, x, a, b);
+    let d = unit_from(places, x, a, b);
     clear_row(jac, to);
     push(jac, places, columns, to, b, d.u);
     push(jac, places, columns, to, a, plane::neg(d.u));
@@ -254,15 +254,15 @@ fn arc_midpoint(
     ensures { λ m. ⌜ laid m (now (jac .exit)) ≡ rowsInto (now (places .entry)) (now (columns .entry)) to (now (jac .entry)) (arcMidpointOf (atOf (now (places .entry)) (now (x .entry))) p c f t) ⌝ }
 {
     // On the circle: as far from the centre as the start..
-    let df = toward(places, x, c, f);
-    let dp = toward(places, x, c, p);
+    let df = unit_from(places, x, c, f);
+    let dp = unit_from(places, x, c, p);
     clear_row(jac, to);
     push(jac, places, columns, to, f, df.u);
     push(jac, places, columns, to, c, plane::sub(dp.u, df.u));
     push(jac, places, columns, to, p, plane::neg(dp.u));
     // ..and as far from the start as from the end.
-    let a = toward(places, x, f, p);
-    let b = toward(places, x, t, p);
+    let a = unit_from(places, x, f, p);
+    let b = unit_from(places, x, t, p);
     let second = next(to);
     clear_row(jac, second);
     push(jac, places, columns, second, p, plane::sub(a.u, b.u));
@@ -287,13 +287,13 @@ fn symmetric(
     // The middle of the two points on the line..
     let d = dir(places, x, l);
     let m = middle(places, x, p, q, l.from);
-    let up = turned_up(d.u);
-    let half = times_vec(0.5, up);
+    let toward = turned_up(d.u);
+    let half = times_vec(0.5, toward);
     clear_row(jac, to);
     through1(jac, places, columns, to, l, d, turned_down(m));
     push(jac, places, columns, to, p, half);
     push(jac, places, columns, to, q, half);
-    push(jac, places, columns, to, l.from, plane::neg(up));
+    push(jac, places, columns, to, l.from, plane::neg(toward));
     // ..and the segment between them across it.
     let w = offset(places, x, p, q);
     let second = next(to);
@@ -318,8 +318,8 @@ fn equal_radius(
     requires { ⌜ (to .base ≤ 6320) × (to .n ≤ 80) ⌝ }
     ensures { λ m. ⌜ laid m (now (jac .exit)) ≡ rowsInto (now (places .entry)) (now (columns .entry)) to (now (jac .entry)) (equalRadiusOf (atOf (now (places .entry)) (now (x .entry))) c1 f1 c2 f2) ⌝ }
 {
-    let d1 = toward(places, x, c1, f1);
-    let d2 = toward(places, x, c2, f2);
+    let d1 = unit_from(places, x, c1, f1);
+    let d2 = unit_from(places, x, c2, f2);
     clear_row(jac, to);
     push(jac, places, columns, to, f1, d1.u);
     push(jac, places, columns, to, c1, plane::neg(d1.u));
@@ -356,9 +356,9 @@ fn point_line(
     let q = offset(places, x, l.from, p);
     clear_row(jac, to);
     through1(jac, places, columns, to, l, d, side_down(side, q));
-    let up = side_up(side, d.u);
-    push(jac, places, columns, to, p, up);
-    push(jac, places, columns, to, l.from, plane::neg(up));
+    let toward = side_up(side, d.u);
+    push(jac, places, columns, to, p, toward);
+    push(jac, places, columns, to, l.from, plane::neg(toward));
     1
 }
 
@@ -375,8 +375,8 @@ fn arc_ends(
     requires { ⌜ (to .base ≤ 6320) × (to .n ≤ 80) ⌝ }
     ensures { λ m. ⌜ laid m (now (jac .exit)) ≡ rowsInto (now (places .entry)) (now (columns .entry)) to (now (jac .entry)) (arcEndsOf (atOf (now (places .entry)) (now (x .entry))) c f t) ⌝ }
 {
-    let df = toward(places, x, c, f);
-    let dt = toward(places, x, c, t);
+    let df = unit_from(places, x, c, f);
+    let dt = unit_from(places, x, c, t);
     clear_row(jac, to);
     push(jac, places, columns, to, f, df.u);
     push(jac, places, columns, to, c, plane::sub(dt.u, df.u));
@@ -396,7 +396,7 @@ fn radius_kind(
     requires { ⌜ (to .base ≤ 6320) × (to .n ≤ 80) ⌝ }
     ensures { λ m. ⌜ laid m (now (jac .exit)) ≡ rowsInto (now (places .entry)) (now (columns .entry)) to (now (jac .entry)) (radiusKindOf (atOf (now (places .entry)) (now (x .entry))) c f zero⁺) ⌝ }
 {
-    let d = toward(places, x, c, f);
+    let d = unit_from(places, x, c, f);
     clear_row(jac, to);
     push(jac, places, columns, to, f, d.u);
     push(jac, places, columns, to, c, plane::neg(d.u));
@@ -421,9 +421,9 @@ fn line_circle(
     let q = offset(places, x, l.from, c);
     clear_row(jac, to);
     through1(jac, places, columns, to, l, d, side_down(side, q));
-    let up = side_up(side, d.u);
-    push(jac, places, columns, to, c, up);
-    push(jac, places, columns, to, l.from, plane::neg(up));
+    let toward = side_up(side, d.u);
+    push(jac, places, columns, to, c, toward);
+    push(jac, places, columns, to, l.from, plane::neg(toward));
     radius(jac, places, columns, to, x, rad, c, -1.0);
     1
 }
@@ -443,7 +443,7 @@ fn circle_circle(
     requires { ⌜ (to .base ≤ 6320) × (to .n ≤ 80) ⌝ }
     ensures { λ m. ⌜ laid m (now (jac .exit)) ≡ rowsInto (now (places .entry)) (now (columns .entry)) to (now (jac .entry)) (circleCircleOf (atOf (now (places .entry)) (now (x .entry))) c1 r1 c2 r2 contact) ⌝ }
 {
-    let d = toward(places, x, c1, c2);
+    let d = unit_from(places, x, c1, c2);
     clear_row(jac, to);
     push(jac, places, columns, to, c2, d.u);
     push(jac, places, columns, to, c1, plane::neg(d.u));
@@ -466,7 +466,7 @@ fn line_arc_at(
     ensures { λ m. ⌜ laid m (now (jac .exit)) ≡ rowsInto (now (places .entry)) (now (columns .entry)) to (now (jac .entry)) (lineArcAtOf (atOf (now (places .entry)) (now (x .entry))) l c p) ⌝ }
 {
     let d = dir(places, x, l);
-    let w = toward(places, x, c, p);
+    let w = unit_from(places, x, c, p);
     clear_row(jac, to);
     through1(jac, places, columns, to, l, d, w.u);
     let gp = plane::across(w.u, d.u, w.len);
@@ -488,8 +488,8 @@ fn arc_arc_at(
     requires { ⌜ (to .base ≤ 6320) × (to .n ≤ 80) ⌝ }
     ensures { λ m. ⌜ laid m (now (jac .exit)) ≡ rowsInto (now (places .entry)) (now (columns .entry)) to (now (jac .entry)) (arcArcAtOf (atOf (now (places .entry)) (now (x .entry))) c1 c2 p) ⌝ }
 {
-    let w1 = toward(places, x, c1, p);
-    let w2 = toward(places, x, c2, p);
+    let w1 = unit_from(places, x, c1, p);
+    let w2 = unit_from(places, x, c2, p);
     let g1 = plane::across(w1.u, turned_down(w2.u), w1.len);
     let g2 = plane::across(w2.u, turned_up(w1.u), w2.len);
     clear_row(jac, to);

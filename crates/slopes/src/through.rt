@@ -10,7 +10,7 @@ use crate::dense::Into;
 use crate::dense::push;
 use plane::Dir;
 use plane::Vec2;
-use rows::located::toward;
+use rows::located::unit_from;
 use rows::vectors::times_vec;
 use sketch::Line;
 use sketch::PointNo;
@@ -59,7 +59,7 @@ fn around(
     requires { ⌜ (to .base ≤ 6400) × (to .n ≤ 80) ⌝ }
     ensures { λ _. ⌜ now (jac .exit) ≡ fold (addEntry (now (places .entry)) (now (columns .entry)) (to .n) (to .base)) (now (jac .entry)) (radiusEntries (atOf (now (places .entry)) (now (x .entry))) (Rad.Point p) c scale) ⌝ }
 {
-    let d = toward(places, x, c, p);
+    let d = unit_from(places, x, c, p);
     push(jac, places, columns, to, p, times_vec(scale, d.u));
     push(jac, places, columns, to, c, times_vec(-scale, d.u));
 }

@@ -1,9 +1,8 @@
 -- What a call of `solve_dense` answers and leaves in each lent place, for every input.
-use Prim.Native.Nat.{ℕ, _*_, _≤_, _<_}
-use mathlib.Core.Bool.{true, false, cond}
+use Prim.Native.Nat.{ℕ, _*_}
+use mathlib.Core.Bool.{cond}
 use mathlib.Core.List.{List, _++_}
 use mathlib.Core.Path.{_≡_}
-use borrow.Author.Tests.{lt-ltb, le-ltb, le-leb, lt-leb}
 use lib.Dec.{ltb, leb}
 use lib.ListN.{length, take, drop, replicate}
 use lib.Ieee.{Float}
@@ -11,14 +10,13 @@ use Rattle.floats.specs.Only.{only-answer}
 use Rattle.floats.specs.Ops.{zero⁺}
 use Rattle.loops.specs.Numbers.{Meaning, refused, none, values, tooMany, tooShort}
 use Rattle.loops.specs.Turns.{Try, go, stop}
-use Rattle.loops.specs.Picks.{pick-yes, pick-no}
 use Rattle.solver.specs.declared.Elimination.{Elimination}
-use Rattle.solver.specs.declared.Elimination.the-variants.{Solved, None, TooMany, TooShort}
+use Rattle.solver.specs.declared.Elimination.the-variants.{Some, None, TooMany, TooShort}
 use Rattle.solver.specs.Steps.{solutionOf}
 
 -- what each case of the answer says in document 01's terms, with the right side as it is afterwards
 abbrev pub meaningOf : ℕ → List Float → Elimination → Meaning (List Float)
-meaningOf n b′ Solved = values (take n b′)
+meaningOf n b′ Some = values (take n b′)
 meaningOf n b′ None = none
 meaningOf n b′ TooMany = refused tooMany
 meaningOf n b′ TooShort = refused tooShort
@@ -28,25 +26,8 @@ module _ {A : Type 0} (n : ℕ) (a b : List Float) where
   unfoldable pub checked : A → A → A → A
   checked three nine done = cond (ltb 80 n) three (cond (leb (n * n) (length a)) (cond (leb n (length b)) done nine) nine)
 
-  module _ (v three nine done : A) where
-    pub too-many : 80 < n → v ≡ three → v ≡ checked three nine done
-    unfolding checked
-    too-many h e = pick-yes _ _ _ _ (lt-ltb 80 n h) e
-
-    pub short-matrix : n ≤ 80 → leb (n * n) (length a) ≡ false → v ≡ nine → v ≡ checked three nine done
-    unfolding checked
-    short-matrix h s e = pick-no _ _ _ _ (le-ltb 80 n h) (pick-no _ _ _ _ s e)
-
-    pub short-right : n ≤ 80 → leb (n * n) (length a) ≡ true → length b < n → v ≡ nine → v ≡ checked three nine done
-    unfolding checked
-    short-right h s t e = pick-no _ _ _ _ (le-ltb 80 n h) (pick-yes _ _ _ _ s (pick-no _ _ _ _ (lt-leb n (length b) t) e))
-
-    pub carried-out : n ≤ 80 → leb (n * n) (length a) ≡ true → n ≤ length b → v ≡ done → v ≡ checked three nine done
-    unfolding checked
-    carried-out h s t e = pick-no _ _ _ _ (le-ltb 80 n h) (pick-yes _ _ _ _ s (pick-yes _ _ _ _ (le-leb n (length b) t) e))
-
 abbrev pub found : Try (List Float) → Elimination
-found (go y) = Solved
+found (go y) = Some
 found stop = None
 
 abbrev pub meant : Try (List Float) → Meaning (List Float)

@@ -46,7 +46,7 @@ pub fn norm2(v: &[f64]) -> f64
 // What elimination came to. A refusal changes nothing that is lent.
 pub enum Elimination {
     // The right side's first n places hold the answer.
-    Solved,
+    Some,
     // The matrix is singular, or the answer is not finite: the right side's first n places are +0.0.
     None,
     // 3: more than 80 rows.
@@ -73,7 +73,7 @@ pub fn solve_dense(a: &mut [f64], b: &mut [f64], n: usize) -> Elimination
     let found = solve_square(&mut a[..nn], &mut b[..n], n);
     floats::clear(&mut a[..nn]);
     if found {
-        return Elimination::Solved;
+        return Elimination::Some;
     }
     floats::clear(&mut b[..n]);
     Elimination::None

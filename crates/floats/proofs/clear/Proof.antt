@@ -5,7 +5,7 @@ use mathlib.Core.Path.{_≡_, refl}
 use lib.ListN.{length, drop, replicate}
 use borrow.Author.Needs.{needs}
 use Rattle.floats.specs.Ops.{zero⁺}
-use Rattle.loops.specs.Writes.{fill-next, fill-done}
+use Rattle.loops.proofs.Writes.{fill-next, fill-done}
 use Rattle.floats.proofs.clear.Statement.{statement}
 use Rattle.floats.proofs.clear.Tie as tie
 

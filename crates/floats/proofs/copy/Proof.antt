@@ -11,7 +11,7 @@ use lib.Dec.{ltb}
 use lib.Ieee.{Float, nan}
 use lib.ListN.{length, take, drop, drop-of-length-le}
 use lib.Seq.{take-all}
-use Rattle.loops.specs.Writes.{into-next}
+use Rattle.loops.proofs.Writes.{into-next}
 use Rattle.floats.specs.Lists.{copiedOf}
 use Rattle.floats.proofs.copy.Statement.{statement}
 use Rattle.floats.proofs.copy.Tie as tie

@@ -10,10 +10,11 @@ use mir.Syntax.{w64}
 use mir.Val.{Fits}
 use Rattle.floats.specs.Ops.{zero⁺}
 use Rattle.loops.specs.Numbers.{values}
-use Rattle.loops.specs.Parts.{front, still-fits, refilled}
+use Rattle.loops.proofs.Parts.{front, still-fits, refilled}
 use Rattle.nullspace.specs.declared.NullSpace.the-variants.{Rank}
 use Rattle.nullspace.specs.Steps.{Qr, reflectorsOf, rankOf}
-use Rattle.nullspace.specs.Promise.{Spans, too-many-rows, too-many-columns, short-matrix, short-work, short-output, carried-out, meaningOf, decomposedOf, foundIn, vectorsOf}
+use Rattle.nullspace.specs.Promise.{Spans, meaningOf, decomposedOf, foundIn, vectorsOf}
+use Rattle.nullspace.proofs.Checking.{too-many-rows, too-many-columns, short-matrix, short-work, short-output, carried-out}
 use Rattle.nullspace.proofs.Laid.{found, basis-read}
 use borrow.Author.Needs.{needs}
 use Rattle.nullspace.proofs.null_space.Statement.{statement}

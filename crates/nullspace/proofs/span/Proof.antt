@@ -6,7 +6,7 @@ use native.Mathlib.Nat.{mul-le-mul-right, le-refl}
 use native.Mathlib.Omega.{arith}
 use lib.ListN.{length, take, drop}
 use lib.Ieee.{Float}
-use Rattle.loops.specs.Parts.{front}
+use Rattle.loops.proofs.Parts.{front}
 use Rattle.nullspace.specs.Steps.{reflectorsOf, rankOf}
 use Rattle.nullspace.specs.Layout.{Decomposes, laidOut, laidBasis, unitRows}
 use Rattle.nullspace.specs.Promise.{decomposedOf, vectorsOf}

@@ -3,7 +3,8 @@ use mathlib.Core.Path.{_≡_, refl}
 use lib.ListN.{length, drop}
 use lib.Ieee.{nan}
 use borrow.Author.Needs.{needs}
-use Rattle.loops.specs.Turns.{fold, fold-next, fold-done}
+use Rattle.loops.specs.Turns.{fold}
+use Rattle.loops.proofs.Turning.{fold-next, fold-done}
 use Rattle.solver.specs.Sums.{largerAbs, maxAbsOf}
 use Rattle.solver.proofs.max_abs.Statement.{statement}
 use Rattle.solver.proofs.max_abs.Tie as tie

@@ -15,9 +15,10 @@ use borrow.Author.Tests.{not-true, not-false, leb-true}
 use Rattle.floats.specs.Ops.{zero⁺}
 use Rattle.loops.specs.Numbers.{values}
 use Rattle.loops.specs.Turns.{tried}
-use Rattle.loops.specs.Parts.{front, still-fits, refilled}
-use Rattle.solver.specs.declared.Elimination.the-variants.{Solved, None}
-use Rattle.solver.specs.Promise.{Solves, too-many, short-matrix, short-right, carried-out, found, meant, orZeros, solved}
+use Rattle.loops.proofs.Parts.{front, still-fits, refilled}
+use Rattle.solver.specs.declared.Elimination.the-variants.{Some, None}
+use Rattle.solver.specs.Promise.{Solves, found, meant, orZeros, solved}
+use Rattle.solver.proofs.Checking.{too-many, short-matrix, short-right, carried-out}
 use borrow.Author.Needs.{needs}
 use Rattle.solver.proofs.solve_dense.Statement.{statement}
 use Rattle.solver.proofs.solve_dense.Tie as tie
@@ -31,7 +32,7 @@ module _ (n : ℕ) (a b : List Float) (h : n ≤ 80) (s : leb (n * n) (length a)
   matrix-cleared : z ++ drop (n * n) (a₁ ++ drop (n * n) a) ≡ replicate (n * n) zero⁺ ++ drop (n * n) a
   matrix-cleared = refilled zero⁺ (n * n) a a₁ z (leb-true (n * n) (length a) s) same zeros
 
-  with-answer : (ok : Bool) → ok ≡ true → tried ok y ≡ solved n a b → Solves n a b (z ++ drop (n * n) (a₁ ++ drop (n * n) a)) (y ++ drop n b) Solved
+  with-answer : (ok : Bool) → ok ≡ true → tried ok y ≡ solved n a b → Solves n a b (z ++ drop (n * n) (a₁ ++ drop (n * n) a)) (y ++ drop n b) Some
   with-answer ok o q = let e : tried true y ≡ solved n a b = rw o at q in record {
     answer = carried-out n a b _ _ _ _ h s t (ap found e);
     meaning = carried-out n a b _ _ _ _ h s t (ap values (take-at y (drop n b) n (kept ∙ length-take-le n b t)) ∙ ap meant e);

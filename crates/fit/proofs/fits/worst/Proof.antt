@@ -5,7 +5,7 @@ use native.Mathlib.Omega.{arith}
 use lib.Ieee.{Float}
 use lib.ListN.{length, take, replicate, length-take}
 use Rattle.floats.specs.Ops.{zero⁺}
-use Rattle.loops.specs.Parts.{front}
+use Rattle.loops.proofs.Parts.{front}
 use Rattle.groups.proofs.Counted.{taken}
 use Rattle.members.proofs.Sized.{sized}
 use Rattle.rounds.proofs.Begins.{begun}

@@ -26,7 +26,7 @@ lay-requires c κs =
     let i = h .before .before .before .before in
     let s = i .before .before .before .before .before in
     let room = none-short (length (s .args .p .now)) (length (s .args .q .now)) (length (s .args .r .now)) (i .if1 .left) in
-    (h .held .ensures .0, h .held .ensures .1, room .0)
+    (h .free-count .ensures .0, h .free-count .ensures .1, room .0)
 
 rank-requires : tie.Need-rank-requires
 rank-requires c κs =
@@ -37,7 +37,7 @@ rank-requires c κs =
     let s = i .before .before .before .before .before in
     let room = none-short (length (s .args .p .now)) (length (s .args .q .now)) (length (s .args .r .now)) (i .if1 .left) in
     let few : l .lay .result ≤ 64 = rw (l .lay .ensures .counted ∙ sym (k .before .row-count .ensures)) (k .if2 .left) in
-    (few, h .held .ensures .1, rw (l .lay .kept .1 .1 .1 .1 .0) (room .0), room .1, room .2)
+    (few, h .free-count .ensures .1, rw (l .lay .kept .1 .1 .1 .1 .0) (room .0), room .1, room .2)
 
 returns-3 : tie.Need-returns-3
 returns-3 c =
@@ -47,8 +47,8 @@ returns-3 c =
     let k = h .before .before in
     let i = k .before .before in
     let s = i .before .before .before .before .before in
-    frees (s .args .b) (s .args .f) (s .args .x .now) (s .args .p .now) (s .args .q .now) (s .args .r .now) (h .held .result) (l .lay .result) (l .lay .last .1 .1 .1 .1 .0) (u .rank .last .1 .1 .0)
-    (u .rank .last .1 .1 .1 .0) (u .rank .last .1 .1 .1 .1 .0) (u .rank .result) (h .held .ensures .0) (l .lay .ensures) (u .rank .ensures) (c .freed .result) (c .freed .ensures) (i .if1 .left)
+    frees (s .args .b) (s .args .f) (s .args .x .now) (s .args .p .now) (s .args .q .now) (s .args .r .now) (h .free-count .result) (l .lay .result) (l .lay .last .1 .1 .1 .1 .0) (u .rank .last .1 .1 .0)
+    (u .rank .last .1 .1 .1 .0) (u .rank .last .1 .1 .1 .1 .0) (u .rank .result) (h .free-count .ensures .0) (l .lay .ensures) (u .rank .ensures) (c .freed .result) (c .freed .ensures) (i .if1 .left)
     (rw (sym (k .before .row-count .ensures)) (k .if2 .left))
 
 pub freedom-spec : {M : Type 1} → statement M

@@ -2,7 +2,7 @@
 use native.Mathlib.Omega.{arith}
 use lib.ListN.{length-take}
 use mathlib.Core.Path.{sym}
-use Rattle.loops.specs.Parts.{front}
+use Rattle.loops.proofs.Parts.{front}
 use Rattle.members.proofs.Sized.{sized}
 use Rattle.fit.proofs.RanksLaws.{lays}
 use borrow.Author.Needs.{needs}

@@ -2,7 +2,7 @@
 use Prim.Native.Nat.{_*_}
 use native.Mathlib.Omega.{arith}
 use lib.ListN.{length}
-use Rattle.loops.specs.Parts.{front}
+use Rattle.loops.proofs.Parts.{front}
 use Rattle.rounds.proofs.Begins.{table-fits, fits-in}
 use Rattle.fit.proofs.RanksLaws.{ranks}
 use borrow.Author.Needs.{needs}

@@ -7,7 +7,7 @@ use lib.ListN.{length, take, drop, length-take, length-map}
 use Rattle.loops.specs.Turns.{fold}
 use Rattle.rounds.specs.Problem.{moreRows}
 use Rattle.rows.proofs.Within.{any-default}
-use Rattle.rows.specs.Column.{heldActive}
+use Rattle.sketch.specs.Blank.{blankActive}
 use Rattle.sketch.proofs.AtMostTwo.{two-at-most}
 use Rattle.sketch.specs.declared.Active.{Active}
 use Rattle.fit.proofs.RanksLaws.{more-rows, no-row, counted}
@@ -86,7 +86,7 @@ loop-again-2 c =
       omega (arith, c .before .before .before .loop-test .taken),
       omega (arith, few, l .loop .inv .1),
       more-rows (b .equations) (own .items) (m .numbers .result) (l .loop .i) (l .loop .rows) room (c .before .before .before .loop-test .taken) _ (l .loop .inv .2) (c .rows .result) _
-          (c .rows .ensures) (ap (λ (e : Active). e .equation) (any-default (b .equations) _ _ heldActive (omega (arith, c .before .before .if1 .left, sized)))),
+          (c .rows .ensures) (ap (λ (e : Active). e .equation) (any-default (b .equations) _ _ blankActive (omega (arith, c .before .before .if1 .left, sized)))),
     )
 
 returns : tie.Need-returns Inv-loop μ-loop

@@ -6,7 +6,7 @@ use native.Mathlib.Omega.{arith}
 use lib.ListN.{length, take, drop, length-drop}
 use lib.Seq.{length-take-le}
 use borrow.Author.Needs.{needs}
-use Rattle.loops.specs.Parts.{front}
+use Rattle.loops.proofs.Parts.{front}
 use Rattle.fitter.specs.declared.input.Input.{Input}
 use Rattle.fitter.specs.declared.input.Input.the-variants.{Ended}
 use Rattle.fitter.specs.Taken.{Taken}

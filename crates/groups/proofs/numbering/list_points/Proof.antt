@@ -5,7 +5,8 @@ use mathlib.Core.Path.{_≡_, refl, ap}
 use native.Mathlib.Omega.{arith}
 use borrow.Author.Needs.{needs}
 use lib.ListN.{length, getD}
-use Rattle.loops.specs.Turns.{upTo, upTo-next, upTo-done}
+use Rattle.loops.specs.Turns.{upTo}
+use Rattle.loops.proofs.Turning.{upTo-next, upTo-done}
 use Rattle.groups.specs.Listed.{listPoint, listPoints, pointOf}
 use Rattle.groups.specs.Parents.{Falls, Gives}
 use Rattle.groups.specs.declared.Listing.{Listing}

@@ -5,7 +5,8 @@ use mathlib.Core.Path.{_≡_, refl}
 use native.Mathlib.Omega.{arith}
 use borrow.Author.Needs.{needs}
 use lib.ListN.{length, getD, drop}
-use Rattle.loops.specs.Turns.{fold, fold-next, fold-done}
+use Rattle.loops.specs.Turns.{fold}
+use Rattle.loops.proofs.Turning.{fold-next, fold-done}
 use Rattle.sketch.specs.declared.Touched.{Touched}
 use Rattle.groups.specs.Parents.{Falls, joinTo, joinAll}
 use Rattle.groups.specs.Touches.{numberAt, numbersOf}

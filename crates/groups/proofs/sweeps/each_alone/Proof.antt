@@ -3,7 +3,8 @@ use Prim.Native.Nat.{_≤_, _-_}
 use mathlib.Core.Path.{_≡_, refl}
 use borrow.Author.Needs.{needs}
 use lib.ListN.{length}
-use Rattle.loops.specs.Turns.{upTo, upTo-next, upTo-done}
+use Rattle.loops.specs.Turns.{upTo}
+use Rattle.loops.proofs.Turning.{upTo-next, upTo-done}
 use Rattle.groups.specs.Parents.{selfAt, alone}
 use Rattle.groups.proofs.sweeps.each_alone.Statement.{statement}
 use Rattle.groups.proofs.sweeps.each_alone.Tie as tie

@@ -4,7 +4,8 @@ use mathlib.Core.Path.{_≡_, refl}
 use native.Mathlib.Omega.{arith}
 use borrow.Author.Needs.{needs}
 use lib.ListN.{length}
-use Rattle.loops.specs.Turns.{upTo, upTo-done}
+use Rattle.loops.specs.Turns.{upTo}
+use Rattle.loops.proofs.Turning.{upTo-done}
 use Rattle.groups.specs.Parents.{Falls, joinAll, joined}
 use Rattle.groups.specs.Touches.{touchesIn}
 use Rattle.groups.proofs.Filled.{row-at}

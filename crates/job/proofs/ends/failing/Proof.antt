@@ -1,5 +1,5 @@
 -- Assumes nothing.
-use Rattle.job.proofs.Ending.{failing-is}
+use Rattle.job.proofs.Answers.{failing-is}
 use Rattle.job.proofs.Freeing.{roomy}
 use borrow.Author.Needs.{needs}
 use Rattle.job.proofs.ends.failing.Statement.{statement}

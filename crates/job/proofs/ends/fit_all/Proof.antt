@@ -1,5 +1,5 @@
 -- Assumes nothing.
-use Rattle.job.proofs.Ending.{ended-failing, ended-fitted}
+use Rattle.job.proofs.Answers.{ended-failing, ended-fitted}
 use borrow.Author.Needs.{needs}
 use Rattle.job.proofs.ends.fit_all.Statement.{statement}
 use Rattle.job.proofs.ends.fit_all.Tie as tie

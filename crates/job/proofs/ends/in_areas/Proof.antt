@@ -4,8 +4,8 @@ use mathlib.Core.Path.{_∙_}
 use lib.ListN.{drop}
 use lib.Seq.{length-front}
 use Rattle.floats.specs.Ops.{zero⁺}
-use Rattle.loops.specs.Parts.{front, still-fits, refilled}
-use Rattle.job.proofs.Ending.{long}
+use Rattle.loops.proofs.Parts.{front, still-fits, refilled}
+use Rattle.job.proofs.Answers.{long}
 use borrow.Author.Needs.{needs}
 use Rattle.job.proofs.ends.in_areas.Statement.{statement}
 use Rattle.job.proofs.ends.in_areas.Tie as tie

@@ -2,7 +2,7 @@
 use Rattle.job.proofs.Refusing.{room}
 use mathlib.Core.Path.{sym, _∙_}
 use lib.ListN.{length}
-use Rattle.job.proofs.Ending.{does-refuse, does-fit}
+use Rattle.job.proofs.Answers.{does-refuse, does-fit}
 use borrow.Author.Needs.{needs}
 use Rattle.job.proofs.ends.solve.Statement.{statement}
 use Rattle.job.proofs.ends.solve.Tie as tie

@@ -2,7 +2,8 @@
 use Prim.Native.Nat.{_-_, _≤_}
 use mathlib.Core.Path.{_≡_, refl}
 use borrow.Author.Needs.{needs}
-use Rattle.loops.specs.Turns.{upTo, upTo-done}
+use Rattle.loops.specs.Turns.{upTo}
+use Rattle.loops.proofs.Turning.{upTo-done}
 use Rattle.job.specs.Groups.{looseAt, looseOf}
 use Rattle.job.proofs.Freeing.{loose-turn, counted-few}
 use Rattle.job.proofs.freedoms.loose.Statement.{statement}

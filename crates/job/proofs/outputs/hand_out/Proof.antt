@@ -3,7 +3,7 @@ use Prim.Native.Nat.{_*_, _≤_}
 use mathlib.Core.List.{_++_}
 use mathlib.Core.Path.{_≡_, refl, sym, _∙_}
 use lib.ListN.{length, drop}
-use Rattle.loops.specs.Parts.{front, still-fits}
+use Rattle.loops.proofs.Parts.{front, still-fits}
 use Rattle.job.proofs.Handing.{handed-out}
 use Rattle.job.proofs.Laying.{sized}
 use borrow.Author.Needs.{needs}

@@ -4,7 +4,8 @@ use Prim.Native.Nat.{_-_, _≤_}
 use mathlib.Core.Path.{_≡_, refl}
 use borrow.Author.Needs.{needs}
 use lib.ListN.{length}
-use Rattle.loops.specs.Turns.{upTo, upTo-done}
+use Rattle.loops.specs.Turns.{upTo}
+use Rattle.loops.proofs.Turning.{upTo-done}
 use Rattle.job.specs.Points.{placeAt, placedIn}
 use Rattle.job.proofs.points.place_all.Statement.{statement}
 use Rattle.job.proofs.points.place_all.Tie as tie

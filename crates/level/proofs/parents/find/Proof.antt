@@ -7,7 +7,8 @@ use mathlib.Core.Path.{_≡_, refl, sym, ap, _∙_}
 use borrow.Author.Tests.{eq-eqb, ne-eqb}
 use borrow.Author.Needs.{needs}
 use lib.ListN.{length}
-use Rattle.loops.specs.Turns.{whileTo, whileTo-next, whileTo-stop, whileTo-done}
+use Rattle.loops.specs.Turns.{whileTo}
+use Rattle.loops.proofs.Turning.{whileTo-next, whileTo-stop, whileTo-done}
 use Rattle.level.specs.Parents.{up, below, halved, findOf}
 use Rattle.level.proofs.Both.{both}
 use Rattle.level.proofs.parents.find.Statement.{statement}

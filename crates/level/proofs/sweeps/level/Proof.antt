@@ -3,7 +3,8 @@ use Prim.Native.Nat.{_-_, _≤_, min}
 use mathlib.Core.Path.{_≡_, refl}
 use borrow.Author.Needs.{needs}
 use lib.ListN.{length}
-use Rattle.loops.specs.Turns.{upTo, upTo-next, upTo-done}
+use Rattle.loops.specs.Turns.{upTo}
+use Rattle.loops.proofs.Turning.{upTo-next, upTo-done}
 use Rattle.sketch.specs.Parts.{equationsOf}
 use Rattle.level.specs.Level.{levelAxis, levelOf}
 use Rattle.level.proofs.sweeps.level.Statement.{statement}

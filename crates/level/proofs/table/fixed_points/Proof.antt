@@ -5,7 +5,7 @@ use mathlib.Core.List.{_++_, map}
 use mathlib.Core.Path.{_≡_, refl}
 use borrow.Author.Needs.{needs}
 use lib.ListN.{length, take, drop, replicate}
-use Rattle.loops.specs.Writes.{into-next, into-whole}
+use Rattle.loops.proofs.Writes.{into-next, into-whole}
 use Rattle.level.specs.Fixed.{fixedPoint, fixedOf}
 use Rattle.level.proofs.table.fixed_points.Statement.{statement}
 use Rattle.level.proofs.table.fixed_points.Tie as tie

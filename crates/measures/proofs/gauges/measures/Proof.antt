@@ -1,6 +1,6 @@
 -- What the calls promise, from the last to the first. Assumes nothing.
 use borrow.Author.Needs.{needs}
-use Rattle.loops.specs.Parts.{front}
+use Rattle.loops.proofs.Parts.{front}
 use Rattle.measures.specs.Gauges.{gaugedOf, measuredIn}
 use Rattle.measures.proofs.gauges.measures.Statement.{statement}
 use Rattle.measures.proofs.gauges.measures.Tie as tie

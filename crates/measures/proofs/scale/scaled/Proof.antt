@@ -3,20 +3,21 @@ use Prim.Native.Nat.{_≤_, _-_}
 use mathlib.Core.Path.{_≡_, refl}
 use borrow.Author.Needs.{needs}
 use lib.ListN.{length}
-use Rattle.loops.specs.Turns.{upTo, upTo-next, upTo-done}
-use Rattle.measures.specs.Scale.{scaleAt, scaledOf}
+use Rattle.loops.specs.Turns.{upTo}
+use Rattle.loops.proofs.Turning.{upTo-next, upTo-done}
+use Rattle.measures.specs.Scale.{scaleAt, allScaledOf}
 use Rattle.measures.proofs.scale.scaled.Statement.{statement}
 use Rattle.measures.proofs.scale.scaled.Tie as tie
 
 abbrev Inv-loop : tie.InvT-loop
 Inv-loop centre size points n x₀ p₀ x p =
-    (p ≤ n) × (length x ≡ 80) × (upTo n p (scaleAt centre size points) x ≡ scaledOf centre size n points)
+    (p ≤ n) × (length x ≡ 80) × (upTo n p (scaleAt centre size points) x ≡ allScaledOf centre size n points)
 
 abbrev μ-loop : tie.MeasureT-loop
 μ-loop centre size points n x₀ p₀ x p = n - p
 
 loop-holds : tie.Need-loop-holds Inv-loop μ-loop
-unfolding scaledOf
+unfolding allScaledOf
 loop-holds c = (search needs, refl, refl)
 
 loop-again : tie.Need-loop-again Inv-loop μ-loop

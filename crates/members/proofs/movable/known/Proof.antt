@@ -1,6 +1,6 @@
 -- Assumes nothing.
 use borrow.Author.Needs.{needs}
-use Rattle.loops.specs.Picks.{picks}
+use Rattle.loops.proofs.Picks.{picks}
 use Rattle.members.specs.Movable.{knownOf}
 use Rattle.members.proofs.movable.known.Statement.{statement}
 use Rattle.members.proofs.movable.known.Tie as tie

@@ -1,6 +1,6 @@
 -- Assumes nothing.
 use borrow.Author.Needs.{needs}
-use Rattle.loops.specs.Picks.{picks}
+use Rattle.loops.proofs.Picks.{picks}
 use Rattle.members.specs.Scale.{moveBy}
 use Rattle.members.proofs.scale.move_by.Statement.{statement}
 use Rattle.members.proofs.scale.move_by.Tie as tie

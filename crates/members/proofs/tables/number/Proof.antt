@@ -5,7 +5,8 @@ use mathlib.Core.Path.{_≡_, refl, sym, ap, _∙_}
 use borrow.Author.Needs.{needs}
 use lib.ListN.{length, getD, take, set}
 use lib.Seq.{length-take-le, getD-take}
-use Rattle.loops.specs.Turns.{upTo, upTo-next, upTo-done}
+use Rattle.loops.specs.Turns.{upTo}
+use Rattle.loops.proofs.Turning.{upTo-next, upTo-done}
 use Rattle.members.specs.Tables.{numberAt, numberedOf}
 use Rattle.members.proofs.tables.number.Statement.{statement}
 use Rattle.members.proofs.tables.number.Tie as tie

@@ -5,7 +5,7 @@ use mathlib.Core.Path.{sym, ap}
 use borrow.Author.Needs.{needs}
 use borrow.Author.Tests.{lt-ltb, le-ltb}
 use lib.ListN.{drop}
-use Rattle.loops.specs.Parts.{front}
+use Rattle.loops.proofs.Parts.{front}
 use Rattle.normal.proofs.Shapes.{shown, and-left, and-right, lies, lies-fits, over, short, carried}
 use Rattle.normal.proofs.diagonal.damped.Statement.{statement}
 use Rattle.normal.proofs.diagonal.damped.Tie as tie

@@ -1,7 +1,7 @@
 -- Assumes nothing.
 use borrow.Author.Needs.{needs}
 use lib.Seq.{lt-length-set}
-use Rattle.loops.specs.Cells.{cells}
+use Rattle.loops.proofs.Cells.{cells}
 use Rattle.normal.specs.Normal.{pairOf, setBoth}
 use Rattle.normal.proofs.pairs.pair.Statement.{statement}
 use Rattle.normal.proofs.pairs.pair.Tie as tie

@@ -4,7 +4,7 @@ use mathlib.Core.List.{_++_}
 use mathlib.Core.Path.{sym, ap}
 use borrow.Author.Needs.{needs}
 use lib.ListN.{drop}
-use Rattle.loops.specs.Parts.{front}
+use Rattle.loops.proofs.Parts.{front}
 use Rattle.normal.proofs.Shapes.{shown, and-left, and-right, lies, lies-fits, over, short, carried}
 use Rattle.normal.proofs.pairs.product.Statement.{statement}
 use Rattle.normal.proofs.pairs.product.Tie as tie

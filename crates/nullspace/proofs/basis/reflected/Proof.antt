@@ -8,8 +8,9 @@ use lib.Ieee.{Float}
 use borrow.Author.Needs.{needs}
 use Rattle.floats.specs.Ops.{zero⁺, one}
 use Rattle.solver.specs.Sums.{norm2Of}
-use Rattle.loops.specs.Turns.{downTo, downTo-next, downTo-done}
-use Rattle.loops.specs.Cells.{cell-row}
+use Rattle.loops.specs.Turns.{downTo}
+use Rattle.loops.proofs.Turning.{downTo-next, downTo-done}
+use Rattle.loops.proofs.Cells.{cell-row}
 use Rattle.nullspace.specs.Steps.{reflectOf}
 use Rattle.nullspace.specs.Layout.{laidVector, reflectByRow}
 use Rattle.nullspace.proofs.Built.{one-row, part-length}

@@ -8,8 +8,9 @@ use lib.ListN.{length, take, drop, take-append-drop}
 use lib.Seq.{drop-drop}
 use lib.Ieee.{Float}
 use borrow.Author.Needs.{needs}
-use Rattle.loops.specs.Turns.{upTo, upTo-next, upTo-done}
-use Rattle.loops.specs.Cells.{cell-row}
+use Rattle.loops.specs.Turns.{upTo}
+use Rattle.loops.proofs.Turning.{upTo-next, upTo-done}
+use Rattle.loops.proofs.Cells.{cell-row}
 use Rattle.nullspace.specs.Layout.{addVector, laidBasis, laidVector}
 use Rattle.nullspace.proofs.Built.{part-length, take-built, drop-built}
 use Rattle.nullspace.proofs.basis.vectors.Statement.{statement}

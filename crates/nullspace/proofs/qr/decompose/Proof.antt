@@ -10,9 +10,10 @@ use lib.Seq.{length-take-le, take-at}
 use lib.Ieee.{Float}
 use borrow.Author.Needs.{needs}
 use borrow.Author.Tests.{not-true, not-false}
-use Rattle.loops.specs.Turns.{whileTo, whileTo-next, whileTo-stop, whileTo-done}
-use Rattle.loops.specs.Cells.{cell-row}
-use Rattle.loops.specs.Parts.{tail-part, past-tail}
+use Rattle.loops.specs.Turns.{whileTo}
+use Rattle.loops.proofs.Turning.{whileTo-next, whileTo-stop, whileTo-done}
+use Rattle.loops.proofs.Cells.{cell-row}
+use Rattle.loops.proofs.Parts.{tail-part, past-tail}
 use Rattle.nullspace.specs.declared.qr.Step.{Step}
 use Rattle.nullspace.specs.Layout.{Turned, laidOut, laidOn, laid, laidRank, laidReflectors, laidTurn}
 use Rattle.nullspace.proofs.qr.decompose.Statement.{statement}

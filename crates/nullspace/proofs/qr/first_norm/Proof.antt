@@ -1,6 +1,6 @@
 use mathlib.Core.Path.{refl}
 use borrow.Author.Tests.{eq-eqb, ne-eqb}
-use Rattle.loops.specs.Picks.{pick-yes, pick-no}
+use Rattle.loops.proofs.Picks.{pick-yes, pick-no}
 use Rattle.nullspace.proofs.qr.first_norm.Statement.{statement}
 use Rattle.nullspace.proofs.qr.first_norm.Tie as tie
 

@@ -1,7 +1,7 @@
 use mathlib.Core.Path.{refl}
 use borrow.Author.Tests.{lt-ltb, le-ltb}
-use Rattle.loops.specs.Picks.{pick-yes, pick-no}
-use Rattle.loops.specs.Cells.{cells}
+use Rattle.loops.proofs.Picks.{pick-yes, pick-no}
+use Rattle.loops.proofs.Cells.{cells}
 use Rattle.nullspace.specs.Layout.{longerRow}
 use borrow.Author.Needs.{needs}
 use Rattle.nullspace.proofs.qr.longer.Statement.{statement}

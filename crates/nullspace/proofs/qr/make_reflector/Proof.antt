@@ -6,7 +6,7 @@ use lib.Seq.{length-take-le}
 use lib.Ieee.{Float}
 use Rattle.floats.specs.Ops.{zero⁺}
 use Rattle.loops.specs.Turns.{upTo}
-use Rattle.loops.specs.Parts.{front}
+use Rattle.loops.proofs.Parts.{front}
 use Rattle.nullspace.specs.Steps.{away}
 use Rattle.nullspace.specs.Layout.{reflectorAt, swapHead}
 use borrow.Author.Needs.{needs}

@@ -1,5 +1,5 @@
 use mathlib.Core.Path.{refl}
-use Rattle.loops.specs.Picks.{pick-yes, pick-no}
+use Rattle.loops.proofs.Picks.{pick-yes, pick-no}
 use Rattle.nullspace.proofs.qr.signed.Statement.{statement}
 use Rattle.nullspace.proofs.qr.signed.Tie as tie
 

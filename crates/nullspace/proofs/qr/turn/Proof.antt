@@ -10,8 +10,8 @@ use lib.ListN.{take}
 use lib.Ieee.{Float, eq}
 use Rattle.floats.specs.Ops.{zero⁺}
 use Rattle.solver.specs.Sums.{norm2Of}
-use Rattle.loops.specs.Parts.{front}
-use Rattle.loops.specs.Cells.{cell-row}
+use Rattle.loops.proofs.Parts.{front}
+use Rattle.loops.proofs.Cells.{cell-row}
 use Rattle.nullspace.specs.Steps.{ended}
 use Rattle.nullspace.specs.Layout.{begun, firstOf, largestNorm, longestOf, normAt, reflectedBy, reflectorAt, turned, turns-on}
 use borrow.Author.Needs.{needs}

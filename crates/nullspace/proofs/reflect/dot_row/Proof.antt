@@ -1,7 +1,8 @@
 use Prim.Native.Nat.{_≤_, _-_}
 use mathlib.Core.Path.{_≡_, refl}
 use borrow.Author.Needs.{needs}
-use Rattle.loops.specs.Turns.{upTo, upTo-next, upTo-done}
+use Rattle.loops.specs.Turns.{upTo}
+use Rattle.loops.proofs.Turning.{upTo-next, upTo-done}
 use lib.Ieee.{neg, ofBits}
 use Rattle.nullspace.specs.Layout.{addProductAt, dotAt}
 use Rattle.nullspace.proofs.reflect.dot_row.Statement.{statement}

@@ -1,5 +1,5 @@
 use mathlib.Core.Path.{refl, _∙_}
-use Rattle.loops.specs.Picks.{pick-yes, pick-no}
+use Rattle.loops.proofs.Picks.{pick-yes, pick-no}
 use Rattle.nullspace.specs.Steps.{lessAll}
 use Rattle.nullspace.proofs.Zips.{zip-less}
 use borrow.Author.Needs.{needs}

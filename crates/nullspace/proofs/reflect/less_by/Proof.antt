@@ -2,7 +2,8 @@ use Prim.Native.Nat.{_≤_, _-_}
 use mathlib.Core.Path.{_≡_, refl}
 use lib.ListN.{length}
 use borrow.Author.Needs.{needs}
-use Rattle.loops.specs.Turns.{upTo, upTo-next, upTo-done}
+use Rattle.loops.specs.Turns.{upTo}
+use Rattle.loops.proofs.Turning.{upTo-next, upTo-done}
 use Rattle.nullspace.specs.Layout.{lessBy}
 use Rattle.nullspace.proofs.reflect.less_by.Statement.{statement}
 use Rattle.nullspace.proofs.reflect.less_by.Tie as tie

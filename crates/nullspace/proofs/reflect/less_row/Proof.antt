@@ -1,5 +1,5 @@
 use mathlib.Core.Path.{refl}
-use Rattle.loops.specs.Picks.{pick-yes, pick-no}
+use Rattle.loops.proofs.Picks.{pick-yes, pick-no}
 use Rattle.nullspace.specs.Layout.{lessRowAt}
 use borrow.Author.Needs.{needs}
 use Rattle.nullspace.proofs.reflect.less_row.Statement.{statement}

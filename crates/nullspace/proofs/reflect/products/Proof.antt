@@ -2,7 +2,8 @@ use Prim.Native.Nat.{_≤_, _-_}
 use mathlib.Core.Path.{_≡_, refl}
 use lib.ListN.{drop}
 use borrow.Author.Needs.{needs}
-use Rattle.loops.specs.Turns.{upTo, upTo-next, upTo-done, fold, fold-next, fold-done}
+use Rattle.loops.specs.Turns.{upTo, fold}
+use Rattle.loops.proofs.Turning.{upTo-next, upTo-done, fold-next, fold-done}
 use lib.Ieee.{nan, neg, ofBits}
 use Rattle.solver.specs.Sums.{addSquare, norm2Of}
 use Rattle.nullspace.specs.Steps.{dotOf}

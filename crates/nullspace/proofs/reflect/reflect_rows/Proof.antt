@@ -1,10 +1,11 @@
 use native.Mathlib.Omega.{arith}
-use Rattle.loops.specs.Cells.{cell-row}
+use Rattle.loops.proofs.Cells.{cell-row}
 use Prim.Native.Nat.{_-_}
 use mathlib.Core.Path.{_≡_, refl}
 use lib.ListN.{length}
 use borrow.Author.Needs.{needs}
-use Rattle.loops.specs.Turns.{upTo, upTo-next, upTo-done}
+use Rattle.loops.specs.Turns.{upTo}
+use Rattle.loops.proofs.Turning.{upTo-next, upTo-done}
 use Rattle.nullspace.specs.Layout.{reflectAt, reflectedBy}
 use Rattle.nullspace.proofs.reflect.reflect_rows.Statement.{statement}
 use Rattle.nullspace.proofs.reflect.reflect_rows.Tie as tie

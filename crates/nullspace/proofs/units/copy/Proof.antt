@@ -1,4 +1,4 @@
-use Rattle.loops.specs.Writes.{into-next, into-whole}
+use Rattle.loops.proofs.Writes.{into-next, into-whole}
 use mathlib.Core.List.{_++_, map, map-id}
 use mathlib.Core.Path.{_≡_, refl, _∙_}
 use lib.Ieee.{Float, nan}

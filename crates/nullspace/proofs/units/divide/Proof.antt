@@ -1,4 +1,4 @@
-use Rattle.loops.specs.Writes.{into-next, into-whole}
+use Rattle.loops.proofs.Writes.{into-next, into-whole}
 use Prim.Native.Nat.{_≤_, _-_}
 use mathlib.Core.List.{_++_, map}
 use mathlib.Core.Path.{_≡_, refl}

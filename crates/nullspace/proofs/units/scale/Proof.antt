@@ -1,4 +1,4 @@
-use Rattle.loops.specs.Picks.{pick-yes, pick-no}
+use Rattle.loops.proofs.Picks.{pick-yes, pick-no}
 use Rattle.nullspace.specs.Steps.{scaledBy}
 use borrow.Author.Needs.{needs}
 use Rattle.nullspace.proofs.units.scale.Statement.{statement}

@@ -9,8 +9,9 @@ use lib.ListN.{length, take, drop}
 use lib.Seq.{take-all}
 use lib.Ieee.{Float}
 use borrow.Author.Needs.{needs}
-use Rattle.loops.specs.Turns.{upTo, upTo-next, upTo-done}
-use Rattle.loops.specs.Cells.{cell-row}
+use Rattle.loops.specs.Turns.{upTo}
+use Rattle.loops.proofs.Turning.{upTo-next, upTo-done}
+use Rattle.loops.proofs.Cells.{cell-row}
 use Rattle.nullspace.specs.Steps.{unitOf, unitAt}
 use Rattle.nullspace.specs.Layout.{addUnit, unitRows}
 use Rattle.nullspace.proofs.units.unit_rows.Statement.{statement}

@@ -3,7 +3,7 @@ use mathlib.Core.Bool.{true}
 use mathlib.Core.List.{List, [], _∷_}
 use mathlib.Core.Path.{_≡_, sym, ap, _∙_}
 use Prim.Native.Nat.{ℕ}
-use Rattle.loops.specs.Picks.{pick-yes}
+use Rattle.loops.proofs.Picks.{pick-yes}
 use Rattle.sketch.specs.declared.Rad.{Rad}
 use Rattle.spelling.specs.declared.Cursor.{Cursor}
 use Rattle.spelling.specs.declared.WholeRead.{WholeRead}

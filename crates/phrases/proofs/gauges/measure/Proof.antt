@@ -4,7 +4,7 @@ use mathlib.Core.List.{List}
 use mathlib.Core.Path.{_≡_, sym, ap, _∙_}
 use Prim.Native.Nat.{ℕ}
 use borrow.Author.Needs.{needs}
-use Rattle.loops.specs.Picks.{pick-yes, pick-no}
+use Rattle.loops.proofs.Picks.{pick-yes, pick-no}
 use Rattle.spelling.specs.declared.Cursor.{Cursor}
 use Rattle.phrases.specs.Kinds.{wordAt, nameOf}
 use Rattle.phrases.specs.Measures.{named, measureAt}

@@ -1,4 +1,4 @@
-use Rattle.loops.specs.Parts.{front}
+use Rattle.loops.proofs.Parts.{front}
 use Rattle.replay.proofs.Reply.{compared, too-long}
 use borrow.Author.Needs.{needs}
 use Rattle.replay.proofs.judge.is_reply.Statement.{statement}

@@ -1,4 +1,4 @@
-use Rattle.loops.specs.Picks.{picks}
+use Rattle.loops.proofs.Picks.{picks}
 use Rattle.replay.specs.Counted.{oneMore}
 use borrow.Author.Needs.{needs}
 use Rattle.replay.proofs.tally.one_more.Statement.{statement}

@@ -3,7 +3,7 @@ use Prim.Native.Nat.{_≤_, _-_}
 use mathlib.Core.Path.{_≡_, refl}
 use borrow.Author.Needs.{needs}
 use lib.ListN.{length, drop}
-use Rattle.loops.specs.Turns.{fold-next, fold-done}
+use Rattle.loops.proofs.Turning.{fold-next, fold-done}
 use Rattle.reply.specs.Laid.{laid, nextByte, laying}
 use Rattle.reply.proofs.laying.word.Statement.{statement}
 use Rattle.reply.proofs.laying.word.Tie as tie

@@ -11,12 +11,12 @@ use Rattle.loops.specs.Turns.{fold}
 use Rattle.sketch.proofs.Ending.{the-type}
 use Rattle.sketch.specs.declared.Ending.{Ending}
 use Rattle.sketch.specs.declared.Ending.the-variants.{Fitted, TooLong, BadForm, TooMany, OutOfBounds, NoSuchItem, TooManyRows, NotConverged, TooShort}
-use Rattle.reply.specs.Laid.{Laid, laying}
+use Rattle.reply.specs.Laid.{LaidBytes, laying}
 use Rattle.reply.specs.Reply.{fittedLines, failedLines, linesAfter}
 use Rattle.reply.proofs.parts.lines_after.Statement.{statement}
 use Rattle.reply.proofs.parts.lines_after.Tie as tie
 
-module _ (e : Ending) (a : Answer) (out : List Float) (p m : ℕ) (s u : Laid) where
+module _ (e : Ending) (a : Answer) (out : List Float) (p m : ℕ) (s u : LaidBytes) where
   fitted : e ≡ Fitted → u ≡ laying (fittedLines a out p m) s → u ≡ laying (linesAfter e a out p m) s
   fitted q f = rw q f
 
@@ -27,7 +27,7 @@ module _ (e : Ending) (a : Answer) (out : List Float) (p m : ℕ) (s u : Laid) w
 abbrev others : List ℕ
 others = 1 ∷ 2 ∷ 3 ∷ 4 ∷ 5 ∷ 6 ∷ 8 ∷ []
 
-no-more : (e : Ending) (a : Answer) (out : List Float) (p m : ℕ) (s : Laid) → OneOf others (tagOf the-type e) → s ≡ laying (linesAfter e a out p m) s
+no-more : (e : Ending) (a : Answer) (out : List Float) (p m : ℕ) (s : LaidBytes) → OneOf others (tagOf the-type e) → s ≡ laying (linesAfter e a out p m) s
 unfolding fold
 no-more Fitted a out p m s h = absurd (miss others 0 tt h)
 no-more NotConverged a out p m s h = absurd (miss others 7 tt h)

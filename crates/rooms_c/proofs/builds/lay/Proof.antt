@@ -5,7 +5,8 @@ use native.Mathlib.Nat.{min-le-left, min-le-right}
 use native.Mathlib.Omega.{arith}
 use borrow.Author.Needs.{needs}
 use lib.ListN.{length}
-use Rattle.loops.specs.Turns.{upTo, upTo-next, upTo-done}
+use Rattle.loops.specs.Turns.{upTo}
+use Rattle.loops.proofs.Turning.{upTo-next, upTo-done}
 use Rattle.rooms_c.specs.Jobs.{tableIn, laidOver}
 use Rattle.rooms_c.proofs.builds.lay.Statement.{statement}
 use Rattle.rooms_c.proofs.builds.lay.Tie as tie

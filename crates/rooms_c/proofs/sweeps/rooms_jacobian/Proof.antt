@@ -2,7 +2,8 @@ use Prim.Native.Nat.{_≤_, _-_}
 use mathlib.Core.Path.{_≡_, refl}
 use borrow.Author.Needs.{needs}
 use lib.ListN.{length}
-use Rattle.loops.specs.Turns.{upTo, upTo-next, upTo-done}
+use Rattle.loops.specs.Turns.{upTo}
+use Rattle.loops.proofs.Turning.{upTo-next, upTo-done}
 use Rattle.rows.specs.Column.{laid}
 use Rattle.rooms_c.specs.Sweeps.{jacobianAgain}
 use Rattle.rooms_c.proofs.sweeps.rooms_jacobian.Statement.{statement}

@@ -6,7 +6,7 @@ use lib.Ieee.{Float}
 use lib.ListN.{length, drop, replicate}
 use lib.Seq.{length-front}
 use Rattle.floats.specs.Ops.{zero⁺}
-use Rattle.loops.specs.Parts.{front, still-fits, refilled}
+use Rattle.loops.proofs.Parts.{front, still-fits, refilled}
 use Rattle.rounds.specs.Promise.{zeroed}
 use Rattle.rounds.proofs.Begins.{table-fits, fits-in, counted-outcome}
 use borrow.Author.Needs.{needs}

@@ -5,7 +5,7 @@ use borrow.Author.Tests.{not-true, not-false}
 use lib.Ieee.{Float}
 use lib.ListN.{length, take, drop, replicate}
 use Rattle.floats.specs.Ops.{zero⁺}
-use Rattle.loops.specs.Parts.{front, still-fits}
+use Rattle.loops.proofs.Parts.{front, still-fits}
 use Rattle.rounds.proofs.Begins.{none-many, none-short, copied-front, copied-back, refused-many, refused-short, done-failed, done-converged}
 use borrow.Author.Needs.{needs}
 use Rattle.rounds.proofs.opening.solve.Statement.{statement}

@@ -7,7 +7,7 @@ use Rattle.rows.proofs.residual.arc_arc_at.Tie as tie
 
 returns : tie.Need-returns
 unfolding arcArcAtOf valuesOf
-returns c = rw (c .one .ensures, c .before .cross .ensures, c .before .before .toward2 .ensures, c .before .before .before .toward .ensures)
+returns c = rw (c .one .ensures, c .before .cross .ensures, c .before .before .unit-from2 .ensures, c .before .before .before .unit-from .ensures)
 
 pub arc-arc-at-spec : {M : Type 1} → statement M
 arc-arc-at-spec = tie.close (tie.spec (λ c κs. search needs) (λ c κs. search needs) (λ c κs. search needs) (λ c κs. search needs) returns)

@@ -4,10 +4,12 @@ use mathlib.Core.Path.{_≡_, refl, ap, _∙_}
 use borrow.Author.Tests.{lt-ltb, le-ltb}
 use borrow.Author.Needs.{needs}
 use lib.ListN.{length, drop}
-use Rattle.loops.specs.Picks.{pick-yes, pick-no}
-use Rattle.loops.specs.Turns.{fold, fold-done}
+use Rattle.loops.proofs.Picks.{pick-yes, pick-no}
+use Rattle.loops.specs.Turns.{fold}
+use Rattle.loops.proofs.Turning.{fold-done}
 use Rattle.sketch.specs.declared.Active.{Active}
-use Rattle.rows.specs.Column.{laid, heldActive, nextValue, valuesNext, columnOf}
+use Rattle.rows.specs.Column.{laid, nextValue, valuesNext, columnOf}
+use Rattle.sketch.specs.Blank.{blankActive}
 use Rattle.rows.specs.Located.{atOf}
 use Rattle.rows.proofs.Found.{found-rows}
 use Rattle.rows.proofs.Held.{values-turn, values-past}
@@ -57,7 +59,7 @@ loop-again-2 c =
       search needs,
       search needs,
       values-turn (a .t1) (a .t2) (a .places .now) (a .x .now) (a .chosen .now) (l .i) (search needs) _ _ _ _ _ _
-          (ap (λ (e : Active). e .equation) (any-default (a .t1) _ _ heldActive (search needs))) (v .0 ∙ ap (fold nextValue _) rows) (l .inv .3),
+          (ap (λ (e : Active). e .equation) (any-default (a .t1) _ _ blankActive (search needs))) (v .0 ∙ ap (fold nextValue _) rows) (l .inv .3),
     )
 
 returns-2 : tie.Need-returns-2 Inv-loop μ-loop

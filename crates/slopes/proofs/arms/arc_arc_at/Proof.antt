@@ -30,9 +30,9 @@ returns c =
     let turned-up = across2 .before in
     let across = turned-up .before in
     let turned-down = across .before in
-    let toward2 = turned-down .before in
-    let toward = toward2 .before in
-    rw (push3 .push3 .ensures, neg2 .neg2 .ensures, push2 .push2 .ensures, neg .neg .ensures, push .push .ensures, plus-vec .plus-vec .ensures) (rw (clear-row .clear-row .ensures, across2 .across2 .ensures, turned-up .turned-up .ensures, across .across .ensures, turned-down .turned-down .ensures, toward2 .toward2 .ensures) (rw (toward .toward .ensures)))
+    let unit-from2 = turned-down .before in
+    let unit-from = unit-from2 .before in
+    rw (push3 .push3 .ensures, neg2 .neg2 .ensures, push2 .push2 .ensures, neg .neg .ensures, push .push .ensures, plus-vec .plus-vec .ensures) (rw (clear-row .clear-row .ensures, across2 .across2 .ensures, turned-up .turned-up .ensures, across .across .ensures, turned-down .turned-down .ensures, unit-from2 .unit-from2 .ensures) (rw (unit-from .unit-from .ensures)))
 
 pub arc-arc-at-spec : {M : Type 1} → statement M
 arc-arc-at-spec =

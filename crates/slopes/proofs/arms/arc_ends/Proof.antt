@@ -25,9 +25,9 @@ returns c =
     let sub = push2 .before in
     let push = sub .before .before .before .before in
     let clear-row = push .before .before .before .before in
-    let toward2 = clear-row .before .before in
-    let toward = toward2 .before in
-    rw (push3 .push3 .ensures, neg .neg .ensures, push2 .push2 .ensures, sub .sub .ensures, push .push .ensures, clear-row .clear-row .ensures, toward2 .toward2 .ensures, toward .toward .ensures)
+    let unit-from2 = clear-row .before .before in
+    let unit-from = unit-from2 .before in
+    rw (push3 .push3 .ensures, neg .neg .ensures, push2 .push2 .ensures, sub .sub .ensures, push .push .ensures, clear-row .clear-row .ensures, unit-from2 .unit-from2 .ensures, unit-from .unit-from .ensures)
 
 pub arc-ends-spec : {M : Type 1} → statement M
 arc-ends-spec =

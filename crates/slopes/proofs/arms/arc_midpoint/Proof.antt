@@ -29,20 +29,20 @@ returns c =
     let sub2 = push4 .before in
     let clear-row2 = sub2 .before .before .before .before in
     let next = clear-row2 .before .before in
-    let toward4 = next .before in
-    let toward3 = toward4 .before in
-    let push3 = toward3 .before .before .before in
+    let unit-from4 = next .before in
+    let unit-from3 = unit-from4 .before in
+    let push3 = unit-from3 .before .before .before in
     let neg = push3 .before in
     let push2 = neg .before .before .before .before in
     let sub = push2 .before in
     let push = sub .before .before .before .before in
     let clear-row = push .before .before .before .before in
-    let toward2 = clear-row .before .before in
-    let toward = toward2 .before in
-    let a = toward .before .before .before .before .before .args in
+    let unit-from2 = clear-row .before .before in
+    let unit-from = unit-from2 .before in
+    let a = unit-from .before .before .before .before .before .args in
     two-rows (a .places .now) (a .columns .now) (a .to) (a .jac .now) (push3 .push3 .last .0) _ _ _
-    (rw (push3 .push3 .ensures, neg .neg .ensures, push2 .push2 .ensures, sub .sub .ensures, push .push .ensures, clear-row .clear-row .ensures, toward2 .toward2 .ensures, toward .toward .ensures))
-    (rw (push6 .push6 .ensures, push5 .push5 .ensures, neg2 .neg2 .ensures, push4 .push4 .ensures, sub2 .sub2 .ensures, clear-row2 .clear-row2 .ensures, next .next .ensures .0, toward4 .toward4 .ensures, toward3 .toward3 .ensures))
+    (rw (push3 .push3 .ensures, neg .neg .ensures, push2 .push2 .ensures, sub .sub .ensures, push .push .ensures, clear-row .clear-row .ensures, unit-from2 .unit-from2 .ensures, unit-from .unit-from .ensures))
+    (rw (push6 .push6 .ensures, push5 .push5 .ensures, neg2 .neg2 .ensures, push4 .push4 .ensures, sub2 .sub2 .ensures, clear-row2 .clear-row2 .ensures, next .next .ensures .0, unit-from4 .unit-from4 .ensures, unit-from3 .unit-from3 .ensures))
 
 pub arc-midpoint-spec : {M : Type 1} → statement M
 arc-midpoint-spec =

@@ -1,6 +1,7 @@
 -- What the calls promise, from the last to the first. Assumes nothing.
 use mathlib.Core.Path.{_∙_}
-use Rattle.loops.specs.Turns.{fold, fold-append}
+use Rattle.loops.specs.Turns.{fold}
+use Rattle.loops.proofs.Turning.{fold-append}
 use Rattle.rows.specs.Kinds.{circleCircleOf}
 use Rattle.slopes.specs.Arms.{rowsFrom}
 use Rattle.slopes.specs.Dense.{rowInto}
@@ -28,8 +29,8 @@ returns c =
     let neg = push2 .before in
     let push = neg .before .before .before .before in
     let clear-row = push .before .before .before .before in
-    let toward = clear-row .before .before in
-    rw (fold-append, radius2 .radius2 .ensures, second-sign .second-sign .ensures, radius .radius .ensures, first-sign .first-sign .ensures, push2 .push2 .ensures, neg .neg .ensures, push .push .ensures, clear-row .clear-row .ensures, toward .toward .ensures)
+    let unit-from = clear-row .before .before in
+    rw (fold-append, radius2 .radius2 .ensures, second-sign .second-sign .ensures, radius .radius .ensures, first-sign .first-sign .ensures, push2 .push2 .ensures, neg .neg .ensures, push .push .ensures, clear-row .clear-row .ensures, unit-from .unit-from .ensures)
 
 pub circle-circle-spec : {M : Type 1} → statement M
 circle-circle-spec =

@@ -15,8 +15,8 @@ returns c =
     let neg = push2 .before in
     let push = neg .before .before .before .before in
     let clear-row = push .before .before .before .before in
-    let toward = clear-row .before .before in
-    rw (push2 .push2 .ensures, neg .neg .ensures, push .push .ensures, clear-row .clear-row .ensures, toward .toward .ensures)
+    let unit-from = clear-row .before .before in
+    rw (push2 .push2 .ensures, neg .neg .ensures, push .push .ensures, clear-row .clear-row .ensures, unit-from .unit-from .ensures)
 
 pub distance-spec : {M : Type 1} → statement M
 distance-spec =

@@ -1,7 +1,7 @@
 -- Arm by arm: what the arm found out about the value, and what the call in it promises. Assumes nothing.
 use borrow.Author.Needs.{needs}
 use Rattle.rows.specs.Ends.{rowsGiven}
-use Rattle.rows.specs.Kinds.{axisDistanceOf, coincidentOf, distanceOf, lengthOf, levelOf, midpointOf, pointLineOf, radiusKindOf}
+use Rattle.rows.specs.Kinds.{axisDistanceOf, coincidentOf, distanceOf, lengthOf, levelKindOf, midpointOf, pointLineOf, radiusKindOf}
 use Rattle.slopes.specs.Arms.{rowsFrom}
 use Rattle.slopes.proofs.arms.gradients.Statement.{statement}
 use Rattle.slopes.proofs.arms.gradients.Tie as tie
@@ -11,7 +11,7 @@ unfolding rowsGiven coincidentOf rowsFrom
 returns c = rw (c .before .before .before .before .before .e .given .1, c .before .before .coincident .ensures)
 
 returns-2 : tie.Need-returns-2
-unfolding rowsGiven levelOf rowsFrom
+unfolding rowsGiven levelKindOf rowsFrom
 returns-2 c = rw (c .before .before .before .before .before .e2 .given .1, c .before .before .level .ensures)
 
 returns-3 : tie.Need-returns-3

@@ -1,7 +1,7 @@
 -- What the calls promise, from the last to the first. Assumes nothing.
 use borrow.Author.Needs.{needs}
 use Rattle.loops.specs.Turns.{fold}
-use Rattle.rows.specs.Kinds.{levelOf}
+use Rattle.rows.specs.Kinds.{levelKindOf}
 use Rattle.slopes.specs.Arms.{rowsFrom}
 use Rattle.slopes.specs.Dense.{rowInto}
 use Rattle.slopes.proofs.Held.{within}
@@ -9,7 +9,7 @@ use Rattle.slopes.proofs.arms.level.Statement.{statement}
 use Rattle.slopes.proofs.arms.level.Tie as tie
 
 returns : tie.Need-returns
-unfolding levelOf rowsFrom rowInto fold
+unfolding levelKindOf rowsFrom rowInto fold
 returns c =
     let push2 = c .before .before in
     let push = push2 .before .before .before .before in

@@ -25,9 +25,9 @@ returns c =
     let across = push .before .before in
     let through1 = across .before .before .before in
     let clear-row = through1 .before .before .before .before in
-    let toward = clear-row .before .before in
-    let dir = toward .before in
-    rw (push2 .push2 .ensures, neg .neg .ensures, push .push .ensures, across .across .ensures, through1 .through1 .ensures, clear-row .clear-row .ensures, toward .toward .ensures, dir .dir .ensures)
+    let unit-from = clear-row .before .before in
+    let dir = unit-from .before in
+    rw (push2 .push2 .ensures, neg .neg .ensures, push .push .ensures, across .across .ensures, through1 .through1 .ensures, clear-row .clear-row .ensures, unit-from .unit-from .ensures, dir .dir .ensures)
 
 pub line-arc-at-spec : {M : Type 1} → statement M
 line-arc-at-spec =

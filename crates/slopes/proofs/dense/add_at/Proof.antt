@@ -2,7 +2,7 @@
 use borrow.Author.Needs.{needs}
 use borrow.Author.Tests.{lt-ltb, le-ltb}
 use mathlib.Core.Path.{refl}
-use Rattle.loops.specs.Picks.{pick-yes, pick-no}
+use Rattle.loops.proofs.Picks.{pick-yes, pick-no}
 use Rattle.slopes.specs.Dense.{addAt}
 use Rattle.slopes.proofs.dense.add_at.Statement.{statement}
 use Rattle.slopes.proofs.dense.add_at.Tie as tie

@@ -6,10 +6,12 @@ use borrow.Author.Tests.{ltb-false}
 use lib.Dec.{T}
 use borrow.Author.Needs.{needs}
 use lib.ListN.{length, drop}
-use Rattle.loops.specs.Picks.{pick-yes, pick-no}
-use Rattle.loops.specs.Turns.{fold, fold-done}
+use Rattle.loops.proofs.Picks.{pick-yes, pick-no}
+use Rattle.loops.specs.Turns.{fold}
+use Rattle.loops.proofs.Turning.{fold-done}
 use Rattle.sketch.specs.declared.Active.{Active}
-use Rattle.rows.specs.Column.{laid, heldActive}
+use Rattle.rows.specs.Column.{laid}
+use Rattle.sketch.specs.Blank.{blankActive}
 use Rattle.rows.specs.Located.{atOf}
 use Rattle.slopes.specs.Dense.{nextRow, rowsNext, jacobianOf}
 use Rattle.slopes.proofs.Held.{rows-turn, rows-past}
@@ -72,7 +74,7 @@ loop-again-2 c =
       l .inv .3,
       l .inv .4,
       rows-turn (a .t1) (a .t2) (a .places .now) (a .x .now) (a .chosen .now) (l .i) (search needs) (a .columns .now) (a .n) _ _ _ _ _ _
-          (ap (λ (e : Active). e .equation) (any-default (a .t1) _ _ heldActive (search needs))) (v .0 ∙ ap (fold (nextRow (a .places .now) (a .columns .now) (a .n)) _) rows)
+          (ap (λ (e : Active). e .equation) (any-default (a .t1) _ _ blankActive (search needs))) (v .0 ∙ ap (fold (nextRow (a .places .now) (a .columns .now) (a .n)) _) rows)
           (l .inv .5),
     )
 

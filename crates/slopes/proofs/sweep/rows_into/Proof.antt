@@ -26,7 +26,7 @@ add-result c =
     let s = g .before .before .before .before .before .before in
     let a = s .args in
     let at = atOf (a .places .now) (a .x .now) in
-    let h = few (a .places .now) (a .columns .now) (a .n) (a .row) _ _ _ _ (g .gradients .ensures) (bounded (a .ends) at (a .e)) in
+    let h = few (a .places .now) (a .columns .now) (a .n) (a .row) _ _ _ (rowsGiven (a .ends) at (a .e)) (g .gradients .ensures) (bounded (a .ends) at (a .e)) in
     let k = s .pre .0 in
     omega arith
 
@@ -36,7 +36,7 @@ returns c =
     let s = g .before .before .before .before .before .before in
     let a = s .args in
     let at = atOf (a .places .now) (a .x .now) in
-    let h = few (a .places .now) (a .columns .now) (a .n) (a .row) _ _ _ _ (g .gradients .ensures) (bounded (a .ends) at (a .e)) in
+    let h = few (a .places .now) (a .columns .now) (a .n) (a .row) _ _ _ (rowsGiven (a .ends) at (a .e)) (g .gradients .ensures) (bounded (a .ends) at (a .e)) in
     (rows-laid (a .places .now) (a .columns .now) (a .n) (a .row) _ _ _ _ (g .gradients .ensures), omega arith)
 
 pub rows-into-spec : {M : Type 1} → statement M

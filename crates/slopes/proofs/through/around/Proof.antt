@@ -11,8 +11,8 @@ returns c =
     let times-vec2 = push2 .before in
     let push = times-vec2 .before .before .before .before in
     let times-vec = push .before in
-    let toward = times-vec .before .before in
-    rw (push2 .push2 .ensures, times-vec2 .times-vec2 .ensures, push .push .ensures, times-vec .times-vec .ensures, toward .toward .ensures)
+    let unit-from = times-vec .before .before in
+    rw (push2 .push2 .ensures, times-vec2 .times-vec2 .ensures, push .push .ensures, times-vec .times-vec .ensures, unit-from .unit-from .ensures)
 
 pub around-spec : {M : Type 1} → statement M
 around-spec =

@@ -5,7 +5,8 @@ use lib.ListN.{length, drop}
 use lib.Ieee.{nan}
 use lib.Ieee.Scale.{finite}
 use borrow.Author.Needs.{needs}
-use Rattle.loops.specs.Turns.{every, every-next, every-stop, every-done}
+use Rattle.loops.specs.Turns.{every}
+use Rattle.loops.proofs.Turning.{every-next, every-stop, every-done}
 use Rattle.solver.proofs.back.all_finite.Statement.{statement}
 use Rattle.solver.proofs.back.all_finite.Tie as tie
 

@@ -9,9 +9,10 @@ use lib.ListN.{length, getD, take, drop, set, replicate, length-replicate, drop-
 use lib.Seq.{getD-take, getD-drop, take-take, take-set-le}
 use borrow.Author.Needs.{needs}
 use Rattle.floats.specs.Ops.{_⊖_, _⊘_, zero⁺, zero⁻}
-use Rattle.loops.specs.Turns.{downTo, downTo-next, downTo-done, upTo-same}
-use Rattle.loops.specs.Cells.{cells}
-use Rattle.loops.specs.Parts.{get-past}
+use Rattle.loops.specs.Turns.{downTo}
+use Rattle.loops.proofs.Turning.{downTo-next, downTo-done, upTo-same}
+use Rattle.loops.proofs.Cells.{cells}
+use Rattle.loops.proofs.Parts.{get-past}
 use Rattle.solver.specs.Steps.{sys, at, addTerm, sumOf, backAt, backOf}
 use Rattle.solver.proofs.back.substitute.Statement.{statement}
 use Rattle.solver.proofs.back.substitute.Tie as tie

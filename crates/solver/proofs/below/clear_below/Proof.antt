@@ -3,8 +3,9 @@ use Prim.Native.Nat.{_≤_, _<_, _-_}
 use mathlib.Core.Path.{_≡_, refl}
 use lib.ListN.{length}
 use borrow.Author.Needs.{needs}
-use Rattle.loops.specs.Turns.{upTo, upTo-next, upTo-done}
-use Rattle.loops.specs.Cells.{cells}
+use Rattle.loops.specs.Turns.{upTo}
+use Rattle.loops.proofs.Turning.{upTo-next, upTo-done}
+use Rattle.loops.proofs.Cells.{cells}
 use Rattle.solver.specs.Steps.{sys, rowOf, belowOf}
 use Rattle.solver.proofs.below.clear_below.Statement.{statement}
 use Rattle.solver.proofs.below.clear_below.Tie as tie

@@ -1,6 +1,6 @@
 use Prim.Native.Nat.{_<_}
 use native.Mathlib.Omega.{arith}
-use Rattle.loops.specs.Cells.{cells}
+use Rattle.loops.proofs.Cells.{cells}
 use Rattle.solver.specs.Steps.{rowOf}
 use borrow.Author.Needs.{needs}
 use Rattle.solver.proofs.below.clear_row.Statement.{statement}

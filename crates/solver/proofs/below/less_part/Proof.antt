@@ -7,9 +7,10 @@ use native.Mathlib.Omega.{arith}
 use lib.Ieee.{Float, nan}
 use lib.ListN.{length, take, drop, take-append-drop, length-drop}
 use lib.Seq.{length-take-le}
-use Rattle.loops.specs.Turns.{upTo, upTo-part}
-use Rattle.loops.specs.Cells.{cells, cell-in, cell-mul}
-use Rattle.loops.specs.Parts.{tail-part, past-tail, get-past, set-past}
+use Rattle.loops.specs.Turns.{upTo}
+use Rattle.loops.proofs.Turning.{upTo-part}
+use Rattle.loops.proofs.Cells.{cells, cell-in, cell-mul}
+use Rattle.loops.proofs.Parts.{tail-part, past-tail, get-past, set-past}
 use Rattle.solver.specs.Steps.{lessAt, lessPast}
 use borrow.Author.Needs.{needs}
 use Rattle.solver.proofs.below.less_part.Statement.{statement}

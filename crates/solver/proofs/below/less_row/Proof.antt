@@ -1,5 +1,5 @@
 use mathlib.Core.Path.{refl, ap₂}
-use Rattle.loops.specs.Picks.{pick-yes, pick-no}
+use Rattle.loops.proofs.Picks.{pick-yes, pick-no}
 use Rattle.solver.specs.Steps.{sys, lessRow}
 use borrow.Author.Needs.{needs}
 use Rattle.solver.proofs.below.less_row.Statement.{statement}

@@ -7,8 +7,8 @@ use lib.Ieee.{Float, le}
 use Rattle.floats.specs.Ops.{_⊗_, 1e-15}
 use Rattle.floats.specs.Magnitude.{absOf}
 use Rattle.loops.specs.Turns.{go, stop}
-use Rattle.loops.specs.Cells.{cells}
-use Rattle.loops.specs.Picks.{pick-yes, pick-no}
+use Rattle.loops.proofs.Cells.{cells}
+use Rattle.loops.proofs.Picks.{pick-yes, pick-no}
 use Rattle.solver.specs.Steps.{sys, at, pivotOf, swapped, belowOf, singular, columnOf}
 use borrow.Author.Needs.{needs}
 use Rattle.solver.proofs.pivot.column.Statement.{statement}

@@ -3,7 +3,8 @@ use mathlib.Core.Path.{_≡_, refl}
 use lib.ListN.{length}
 use borrow.Author.Needs.{needs}
 use borrow.Author.Tests.{not-true, not-false}
-use Rattle.loops.specs.Turns.{tryTo, tryTo-next, tryTo-stop, tryTo-done}
+use Rattle.loops.specs.Turns.{tryTo}
+use Rattle.loops.proofs.Turning.{tryTo-next, tryTo-stop, tryTo-done}
 use Rattle.solver.specs.Steps.{sys, columnOf, eliminatedOf}
 use Rattle.solver.proofs.pivot.eliminate.Statement.{statement}
 use Rattle.solver.proofs.pivot.eliminate.Tie as tie

@@ -1,8 +1,9 @@
 use Prim.Native.Nat.{_≤_, _-_}
 use mathlib.Core.Path.{_≡_, refl}
 use borrow.Author.Needs.{needs}
-use Rattle.loops.specs.Turns.{upTo, upTo-next, upTo-done}
-use Rattle.loops.specs.Cells.{cells}
+use Rattle.loops.specs.Turns.{upTo}
+use Rattle.loops.proofs.Turning.{upTo-next, upTo-done}
+use Rattle.loops.proofs.Cells.{cells}
 use Rattle.solver.specs.Candidate.{Sized}
 use Rattle.solver.specs.Steps.{largerRow, pivotOf}
 use Rattle.solver.proofs.pivot.pivot_row.Statement.{statement}

@@ -6,7 +6,8 @@ use lib.ListN.{length, drop}
 use borrow.Author.Needs.{needs}
 use Rattle.floats.specs.Ops.{zero⁺, 1e-300}
 use Rattle.floats.specs.Magnitude.{maxOf}
-use Rattle.loops.specs.Turns.{fold, fold-next, fold-done}
+use Rattle.loops.specs.Turns.{fold}
+use Rattle.loops.proofs.Turning.{fold-next, fold-done}
 use Rattle.solver.specs.Steps.{largerOf, scaleOf}
 use Rattle.solver.proofs.pivot.scale.Statement.{statement}
 use Rattle.solver.proofs.pivot.scale.Tie as tie

@@ -1,6 +1,6 @@
 use mathlib.Core.Path.{refl, ap₂}
 use borrow.Author.Tests.{eq-eqb, ne-eqb}
-use Rattle.loops.specs.Picks.{pick-yes, pick-no}
+use Rattle.loops.proofs.Picks.{pick-yes, pick-no}
 use Rattle.solver.specs.Steps.{sys, swapped}
 use borrow.Author.Needs.{needs}
 use Rattle.solver.proofs.pivot.swap_in.Statement.{statement}

@@ -2,8 +2,9 @@ use Prim.Native.Nat.{_≤_, _-_}
 use mathlib.Core.Path.{_≡_, refl}
 use lib.ListN.{length}
 use borrow.Author.Needs.{needs}
-use Rattle.loops.specs.Turns.{upTo, upTo-next, upTo-done}
-use Rattle.loops.specs.Cells.{cells}
+use Rattle.loops.specs.Turns.{upTo}
+use Rattle.loops.proofs.Turning.{upTo-next, upTo-done}
+use Rattle.loops.proofs.Cells.{cells}
 use Rattle.solver.specs.Steps.{swapColumn}
 use Rattle.solver.proofs.pivot.swap_rows.Statement.{statement}
 use Rattle.solver.proofs.pivot.swap_rows.Tie as tie

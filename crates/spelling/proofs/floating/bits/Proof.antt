@@ -2,7 +2,8 @@
 use Prim.Native.Nat.{_≤_, _-_}
 use mathlib.Core.Path.{_≡_, refl}
 use borrow.Author.Needs.{needs}
-use Rattle.loops.specs.Turns.{upTo, upTo-next, upTo-done}
+use Rattle.loops.specs.Turns.{upTo}
+use Rattle.loops.proofs.Turning.{upTo-next, upTo-done}
 use Rattle.spelling.specs.Floating.{nextHex}
 use Rattle.spelling.proofs.floating.bits.Statement.{statement}
 use Rattle.spelling.proofs.floating.bits.Tie as tie

@@ -10,7 +10,7 @@ use Rattle.spelling.specs.Floating.{hexOf, nextHex}
 use Rattle.spelling.specs.Places.{byteAt, furtherOf, spoiltOf}
 use Rattle.spelling.specs.declared.BitsRead.{BitsRead}
 use Rattle.spelling.specs.declared.Cursor.{Cursor}
-use Rattle.loops.specs.Picks.{both}
+use Rattle.loops.proofs.Picks.{both}
 use borrow.Author.Needs.{needs}
 use Rattle.spelling.proofs.floating.next_hex.Statement.{statement}
 use Rattle.spelling.proofs.floating.next_hex.Tie as tie

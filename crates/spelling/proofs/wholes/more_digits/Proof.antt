@@ -10,7 +10,7 @@ use Rattle.spelling.specs.Places.{byteAt, furtherOf}
 use Rattle.spelling.specs.Wholes.{digitOf, moreOf}
 use Rattle.spelling.specs.declared.Cursor.{Cursor}
 use Rattle.spelling.specs.declared.WholeRead.{WholeRead}
-use Rattle.loops.specs.Picks.{both}
+use Rattle.loops.proofs.Picks.{both}
 use borrow.Author.Needs.{needs}
 use Rattle.spelling.proofs.wholes.more_digits.Statement.{statement}
 use Rattle.spelling.proofs.wholes.more_digits.Tie as tie

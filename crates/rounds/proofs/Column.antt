@@ -11,44 +11,21 @@ use lib.Ieee.{Float, nan}
 use lib.ListN.{length, getD, set, drop, replicate, length-append, length-drop, length-set, length-map, length-replicate, List·getD-append}
 use lib.Seq.{set-append-left, set-at, drop-drop}
 use Rattle.floats.specs.Ops.{_⊕_, zero⁺}
-use Rattle.loops.specs.Parts.{get-past, set-past}
-use Rattle.loops.specs.Turns.{fold, fold-append, upTo, turns}
-use Rattle.plane.specs.declared.Vec2.{Vec2}
+use Rattle.loops.proofs.Parts.{get-past, set-past}
+use Rattle.loops.specs.Turns.{fold, upTo, turns}
+use Rattle.loops.proofs.Turning.{fold-append}
 use Rattle.rows.specs.Column.{Laid, laid, nextValue, rowsAt, valuesNext, columnOf, equationAt}
 use Rattle.slopes.specs.Dense.{nextRow, freeOf, addAt, addEntry, clearAt, clearedOf, rowInto, rowsNext, jacobianOf}
 use Rattle.rows.specs.Entries.{Row}
-use Rattle.rows.specs.Kinds.{
-  coincidentOf,
-  levelOf,
-  parallelOf,
-  perpendicularOf,
-  collinearOf,
-  equalOf,
-  distanceOf,
-  axisDistanceOf,
-  lengthOf,
-  pointLineOf,
-  arcEndsOf,
-  radiusKindOf,
-  lineCircleOf,
-  circleCircleOf,
-  lineArcAtOf,
-  arcArcAtOf,
-  midpointOf,
-  arcMidpointOf,
-  symmetricOf,
-  equalRadiusOf,
-  rowsOfEquation,
-}
+use Rattle.rows.specs.Kinds.{rowsOfEquation}
 use Rattle.rows.specs.Located.{localOf, atOf}
+use Rattle.rows.proofs.Bounded.{rows-of}
 use Rattle.rows.specs.declared.Entry.{Entry}
 use Rattle.sketch.specs.Rows.{rowsOf}
 use Rattle.sketch.proofs.AtMostTwo.{two-at-most}
 use Rattle.sketch.specs.declared.Active.{Active}
-use Rattle.sketch.specs.declared.Equation.{Equation}
 use Rattle.sketch.specs.declared.FreeNo.{FreeNo}
 use Rattle.sketch.specs.declared.Line.{Line}
-use Rattle.sketch.specs.declared.PointNo.{PointNo}
 use Rattle.rounds.specs.Problem.{moreRows, rowCount, denseRow, rowsFor, valuesAt, jacobianAt}
 
 -- ---- a fold over parts is a fold over the whole
@@ -60,33 +37,6 @@ module _ {A S K : Type 0} (f : S → A → S) (g : K → List A) (h : S → K �
   fold-parts (k ∷ ks) s = fold-parts ks (h s k) ∙ ap (λ t. fold f t (flatMap g ks)) (turn s k) ∙ sym (fold-append f s (g k) (flatMap g ks))
 
 -- ---- how many rows there are
-
-module _ (ls : List Line) (at : PointNo → Vec2) where
-  rows-of : (e : Equation) → length (rowsOfEquation ls at e) ≡ rowsOf e
-  unfolding
-      rowsOf rowsOfEquation coincidentOf levelOf parallelOf perpendicularOf collinearOf equalOf distanceOf axisDistanceOf lengthOf pointLineOf
-      arcEndsOf radiusKindOf lineCircleOf circleCircleOf lineArcAtOf arcArcAtOf midpointOf arcMidpointOf symmetricOf equalRadiusOf
-  rows-of (Equation.Coincident a b) = refl
-  rows-of (Equation.Level a b axis) = refl
-  rows-of (Equation.Parallel i j) = refl
-  rows-of (Equation.Perpendicular i j) = refl
-  rows-of (Equation.Collinear i j) = refl
-  rows-of (Equation.Equal i j) = refl
-  rows-of Equation.Held = refl
-  rows-of (Equation.Distance a b value) = refl
-  rows-of (Equation.AxisDistance a b axis value side) = refl
-  rows-of (Equation.Length l value) = refl
-  rows-of (Equation.PointLine p l value side) = refl
-  rows-of (Equation.ArcEnds c f t) = refl
-  rows-of (Equation.Radius c f value) = refl
-  rows-of (Equation.LineCircle l c rad side) = refl
-  rows-of (Equation.CircleCircle c₁ r₁ c₂ r₂ contact) = refl
-  rows-of (Equation.LineArcAt l c p) = refl
-  rows-of (Equation.ArcArcAt c₁ c₂ p) = refl
-  rows-of (Equation.Midpoint p l) = refl
-  rows-of (Equation.ArcMidpoint p c f t) = refl
-  rows-of (Equation.Symmetric p q l) = refl
-  rows-of (Equation.EqualRadius c₁ f₁ c₂ f₂) = refl
 
 module _ (es : List Active) (ls : List Line) (places : List ℕ) (x : List Float) where
   counted : (ks : List ℕ) (n : ℕ) → n + length (flatMap (rowsAt es ls places x) ks) ≡ fold (moreRows es) n ks

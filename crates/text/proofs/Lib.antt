@@ -1,0 +1,3 @@
+-- Laws.
+--     Given   1, 2 and 3 exactly when their rows say
+pub mod Given
