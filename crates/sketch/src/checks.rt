@@ -1,7 +1,7 @@
 // The check before a fit: document 01's 3, 4, 5 and 6, in 01's order.
 ghost use mathlib.Core.Path.{_≡_};
 ghost use mathlib.Core.Bool.{false};
-ghost use Rattle.sketch.specs.Check.{overBound, overRows, Checks};
+ghost use Rattle.sketch.specs.Check.{ordered, overBound, overRows, Checks};
 ghost use Rattle.sketch.specs.Indices.{foundBuild};
 ghost use Rattle.sketch.specs.Numbers.{boundedBuild};
 use crate::Build;
@@ -59,21 +59,28 @@ fn rows_over(b: Build) -> bool
     64 < rows_of_all(equations, b.equation_count)
 }
 
-// What a build ends in before its fit, or that it passes.
+// 4 before 5 before 6, of a build whose counts are within their bounds.
+fn in_order(out: bool, missing: bool, rows: bool) -> Checked
+    ensures { λ r. ⌜ r ≡ ordered false out missing rows ⌝ }
+{
+    if out {
+        return Checked::Ends(Ending::OutOfBounds);
+    }
+    if missing {
+        return Checked::Ends(Ending::NoSuchItem);
+    }
+    if rows {
+        return Checked::Ends(Ending::TooManyRows);
+    }
+    Checked::Passes
+}
+
+// What a build ends in before its fit, or that it passes. The counts come first: the others look at as many items as they say.
 pub fn check(b: Build) -> Checked
     ensures { λ r. ⌜ Checks b r ⌝ }
 {
     if counts_over(b) {
         return Checked::Ends(Ending::TooMany);
     }
-    if !build_bounded(b) {
-        return Checked::Ends(Ending::OutOfBounds);
-    }
-    if !build_found(b) {
-        return Checked::Ends(Ending::NoSuchItem);
-    }
-    if rows_over(b) {
-        return Checked::Ends(Ending::TooManyRows);
-    }
-    Checked::Passes
+    in_order(!build_bounded(b), !build_found(b), rows_over(b))
 }

@@ -1,4 +1,4 @@
--- Each answer by the tests that led to it, in document 01's order. Assumes nothing.
+-- A count over its bound, or what the other tests come to. Assumes nothing.
 use mathlib.Core.Bool.{not}
 use mathlib.Core.Path.{sym, ap, _∙_}
 use borrow.Author.Needs.{needs}
@@ -14,55 +14,23 @@ returns c = checks _ _ (rw (sym (c .before .counts-over .ensures) ∙ c .if1 .ta
 build-bounded-requires : tie.Need-build-bounded-requires
 build-bounded-requires c κs = sym (c .before .counts-over .ensures) ∙ c .if1 .left
 
+build-found-requires : tie.Need-build-found-requires
+build-found-requires c κs = sym (c .before .before .counts-over .ensures) ∙ c .before .if1 .left
+
+rows-over-requires : tie.Need-rows-over-requires
+rows-over-requires c κs = sym (c .before .before .before .counts-over .ensures) ∙ c .before .before .if1 .left
+
 returns-2 : tie.Need-returns-2
 unfolding checkOf
 returns-2 c =
-    let d = c .before .before in
-    checks _ _ (rw (sym (d .before .counts-over .ensures) ∙ d .if1 .left, ap not (sym (c .before .build-bounded .ensures)) ∙ c .if2 .taken))
-
-build-found-requires : tie.Need-build-found-requires
-build-found-requires c κs = let d = c .before .before in sym (d .before .counts-over .ensures) ∙ d .if1 .left
-
-returns-3 : tie.Need-returns-3
-unfolding checkOf
-returns-3 c =
-    let e = c .before .before in
-    let d = e .before .before in
-    checks _ _ (rw (
-      sym (d .before .counts-over .ensures) ∙ d .if1 .left,
-      ap not (sym (e .before .build-bounded .ensures)) ∙ e .if2 .left,
-      ap not (sym (c .before .build-found .ensures)) ∙ c .if3 .taken,
-    ))
-
-rows-over-requires : tie.Need-rows-over-requires
-rows-over-requires c κs =
-    let d = c .before .before .before .before in
-    sym (d .before .counts-over .ensures) ∙ d .if1 .left
-
-returns-4 : tie.Need-returns-4
-unfolding checkOf
-returns-4 c =
-    let f = c .before .before in
-    let e = f .before .before in
-    let d = e .before .before in
-    checks _ _ (rw (
-      sym (d .before .counts-over .ensures) ∙ d .if1 .left,
-      ap not (sym (e .before .build-bounded .ensures)) ∙ e .if2 .left,
-      ap not (sym (f .before .build-found .ensures)) ∙ f .if3 .left,
-      sym (c .before .rows-over .ensures) ∙ c .if4 .taken,
-    ))
-
-returns-5 : tie.Need-returns-5
-unfolding checkOf
-returns-5 c =
-    let f = c .before .before in
-    let e = f .before .before in
-    let d = e .before .before in
-    checks _ _ (rw (
-      sym (d .before .counts-over .ensures) ∙ d .if1 .left,
-      ap not (sym (e .before .build-bounded .ensures)) ∙ e .if2 .left,
-      ap not (sym (f .before .build-found .ensures)) ∙ f .if3 .left,
-      sym (c .before .rows-over .ensures) ∙ c .if4 .left,
+    let r = c .before in
+    let f = r .before in
+    let u = f .before in
+    checks _ _ (c .in-order .ensures ∙ rw (
+      sym (u .before .before .counts-over .ensures) ∙ u .before .if1 .left,
+      u .build-bounded .ensures,
+      f .build-found .ensures,
+      r .rows-over .ensures,
     ))
 
 pub check-spec : {M : Type 1} → statement M
@@ -72,9 +40,7 @@ check-spec =
     (λ c κs. search needs)
     returns
     build-bounded-requires
-    returns-2
     build-found-requires
-    returns-3
     rows-over-requires
-    returns-4
-    returns-5)
+    (λ c κs. search needs)
+    returns-2)
