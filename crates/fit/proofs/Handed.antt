@@ -14,7 +14,8 @@ use Rattle.rounds.specs.Problem.{valuesAt}
 use Rattle.rounds.specs.Promise.{convergedBy}
 use Rattle.rounds.specs.Solve.{Outcome, converged, failed, within}
 use Rattle.sketch.specs.declared.Build.{Build}
-use Rattle.fit.specs.Fits.{Fits, short, refusal, outcomeIn, padded, fittedBy}
+use Rattle.fit.specs.Fits.{outcomeIn}
+use Rattle.fit.specs.Promise.{FitsChosen, short, refusal, padded, fittedBy}
 use Rattle.fit.specs.Frames.{startIn}
 use Rattle.fit.specs.declared.Fitted.{Fitted}
 use Rattle.fit.specs.declared.Frame.{Frame}
@@ -38,7 +39,7 @@ module _ (b : Build) (f : Frame) (chosen : Equations) where
   held false (failed i t) e h = absurd (true≢false (sym h))
   held false (converged x i t) e h = record { x = x; shown = refl; holds = fit-holds _ _ (startIn b f) x i t e }
 
-  module _ {p q r p′ q′ r′ : List Float} {t : Fitted} (made : Fits b f chosen p q r p′ q′ r′ t) where
+  module _ {p q r p′ q′ r′ : List Float} {t : Fitted} (made : FitsChosen b f chosen p q r p′ q′ r′ t) where
     pub no-coordinates : convergedBy (t .solved .ending) ≡ false → t .x ≡ replicate 80 zero⁺
     no-coordinates =
         subst (λ (u : Fitted). convergedBy (u .solved .ending) ≡ false → u .x ≡ replicate 80 zero⁺) (sym (made .answer))

@@ -16,7 +16,9 @@ use Rattle.members.specs.declared.Listed.{Listed}
 use Rattle.rounds.specs.Promise.{zeroed, convergedBy}
 use Rattle.rounds.specs.Solve.{Outcome, converged, failed}
 use Rattle.sketch.specs.declared.Build.{Build}
-use Rattle.fit.specs.Fits.{outcomeIn, fittedBy, short, wide, square, Fits, converges, suspect, mark, withouts, jacobianLeft, productLeft, Tests, Suspects, Marks}
+use Rattle.fit.specs.Fits.{outcomeIn, converges, suspect, mark}
+use Rattle.fit.specs.Inside.{Tests, Suspects}
+use Rattle.fit.specs.Promise.{fittedBy, short, wide, square, FitsChosen, withouts, jacobianLeft, productLeft, Marks}
 use Rattle.fit.specs.Frames.{startIn}
 use Rattle.fit.specs.declared.Fitted.{Fitted}
 use Rattle.fit.specs.declared.Frame.{Frame}
@@ -28,7 +30,7 @@ ended-so n (converged x i t) = refl
 ended-so n (failed i t) = refl
 
 module _ (b : Build) (f : Frame) (k : ℕ) (p q r p′ q′ r′ : List Float) (chosen : Equations) (t : Fitted) (s : Bool) (room : short p q r ≡ false)
-    (l : Lists (chosen .0) (withouts b f k)) (h : Fits b f chosen p q r p′ q′ r′ t) (e : s ≡ convergedBy (t .solved .ending)) where
+    (l : Lists (chosen .0) (withouts b f k)) (h : FitsChosen b f chosen p q r p′ q′ r′ t) (e : s ≡ convergedBy (t .solved .ending)) where
   rest : numbersOf (chosen .0) ≡ withouts b f k
   rest = numbers-are (chosen .0) (withouts b f k) l
 

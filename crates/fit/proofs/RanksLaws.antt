@@ -29,7 +29,9 @@ use Rattle.sketch.specs.declared.Active.{Active}
 use Rattle.sketch.specs.declared.Build.{Build}
 use Rattle.sketch.specs.declared.Equation.{Equation}
 use Rattle.slopes.specs.Dense.{jacobianOf}
-use Rattle.fit.specs.Fits.{gradientsOf, freedomOf, frameOverRows, short, meaningOf, Lays, Ranks, freedBy, Frees}
+use Rattle.fit.specs.Fits.{gradientsOf, freedomOf}
+use Rattle.fit.specs.Inside.{Lays, Ranks, freedBy}
+use Rattle.fit.specs.Promise.{frameOverRows, short, meaningOf, Frees}
 use Rattle.fit.specs.declared.Degrees.{Degrees}
 use Rattle.fit.specs.declared.Frame.{Frame}
 

@@ -2,7 +2,7 @@
 use Prim.Native.Nat.{ℕ, _-_, _*_, _≤_, min}
 use mathlib.Core.Bool.{Bool, true, false, cond}
 use mathlib.Core.List.{List, _++_}
-use mathlib.Core.Path.{_≡_, sym, ap, _∙_}
+use mathlib.Core.Path.{_≡_, refl, sym, ap, _∙_}
 use native.Mathlib.Omega.{arith}
 use borrow.Author.Tests.{le-ltb}
 use lib.Ieee.{Float}
@@ -10,6 +10,7 @@ use lib.ListN.{length, take, drop, replicate, length-take, length-map, length-re
 use lib.Seq.{take-at, drop-at}
 use Rattle.floats.specs.Ops.{zero⁺}
 use Rattle.groups.proofs.Counted.{taken}
+use Rattle.loops.specs.Numbers.{refused, tooShort}
 use Rattle.members.specs.Lists.{numbersOf}
 use Rattle.members.specs.Movable.{pointsAt, indicesOf}
 use Rattle.members.proofs.Readings.{start-length}
@@ -25,7 +26,9 @@ use Rattle.sketch.specs.declared.Active.{Active}
 use Rattle.sketch.specs.declared.Build.{Build}
 use Rattle.sketch.specs.declared.Line.{Line}
 use Rattle.solver.specs.Sums.{maxAbsOf}
-use Rattle.fit.specs.Fits.{Fits, shownOf, fittedBy, refusal, short, worstOf}
+use Rattle.fit.specs.Fits.{outcomeIn, worstOf}
+use Rattle.fit.specs.Inside.{shownOf}
+use Rattle.fit.specs.Promise.{FitsChosen, fittedBy, refusal, short, fitMeaning, fitMeant}
 use Rattle.fit.specs.Frames.{startIn}
 use Rattle.fit.specs.declared.Fitted.{Fitted}
 use Rattle.fit.specs.declared.Frame.{Frame}
@@ -35,6 +38,12 @@ shown-by : (n : ℕ) (o : Outcome) (s : Solved) (x x′ rest : List Float) (t : 
     → t ≡ shownOf s (x′ ++ rest) → t ≡ fittedBy n o
 shown-by n (converged y i k) s x x′ rest t es ex er et = et ∙ rw (es, ex, er)
 shown-by n (failed i k) s x x′ rest t es ex er et = et ∙ rw es
+
+-- and what it means
+meaning-is : (v : Bool) (n : ℕ) (o : Outcome) → fitMeaning (cond v refusal (fittedBy n o)) ≡ cond v (refused tooShort) (fitMeant n o)
+meaning-is true n o = refl
+meaning-is false n (converged x i t) = refl
+meaning-is false n (failed i t) = refl
 
 -- elimination of the bounds that a frame keeps
 module _ (es : List Active) (ls : List Line) (places columns chosen free : List ℕ) (x p q r x′ p′ q′ r′ : List Float) (s : Solved)
@@ -71,7 +80,7 @@ module _ (b : Build) (f : Frame) (chosen : Equations) (p q r p′ q′ r′ x x�
   pub fit-is : length (f .points .0 .items) ≡ 40 → length (chosen .0 .items) ≡ 40 → length (f .free .items) ≡ 80 → k₁ ≡ min (f .points .0 .count) 40 → k₂ ≡ min (chosen .0 .count) 40
       → k₃ ≡ min (f .free .count) 80 → x ≡ scale.startIn (b .centre) (b .size) (pointsAt (b .points) (numbersOf (f .points .0))) (replicate 80 zero⁺)
       → Solves (b .equations) (b .lines) (f .places) (f .columns) (take k₂ (chosen .0 .items)) (take k₃ (f .free .items)) (take (2 * k₁) x) p q r x′ p′ q′ r′ s
-      → t ≡ shownOf s (x′ ++ drop (2 * k₁) x) → Fits b f chosen p q r p′ q′ r′ t
+      → t ≡ shownOf s (x′ ++ drop (2 * k₁) x) → FitsChosen b f chosen p q r p′ q′ r′ t
   fit-is l n m e₁ e₂ e₃ ex es et =
       let ps = pointsAt (b .points) (numbersOf (f .points .0)) in
       let c : take k₂ (chosen .0 .items) ≡ numbersOf (chosen .0) = taken (chosen .0 .items) (chosen .0 .count) k₂ 40 n e₂ in
@@ -92,15 +101,16 @@ module _ (b : Build) (f : Frame) (chosen : Equations) (p q r p′ q′ r′ x x�
     where
       carried : Solves (b .equations) (b .lines) (f .places) (f .columns) (numbersOf (chosen .0)) (indicesOf (f .free)) (startIn b f) p q r x′ p′ q′ r′ s
           → length (numbersOf (chosen .0)) ≤ 40 → length (indicesOf (f .free)) ≤ 80 → length (startIn b f) ≤ 80 → drop (2 * k₁) x ≡ replicate (80 - length (startIn b f)) zero⁺
-          → t ≡ shownOf s (x′ ++ drop (2 * k₁) x) → Fits b f chosen p q r p′ q′ r′ t
-      carried e few narrow long er et = record {
-        answer =
-            shown (b .equations) (b .lines) (f .places) (f .columns) (numbersOf (chosen .0)) (indicesOf (f .free)) (startIn b f) p q r x′ p′ q′ r′ s few narrow long e
-            (length (startIn b f)) (drop (2 * k₁) x) t er et;
-        jacobian = area-p (b .equations) (b .lines) (f .places) (f .columns) (numbersOf (chosen .0)) (indicesOf (f .free)) (startIn b f) p q r x′ p′ q′ r′ s few narrow long e;
-        product = area-q (b .equations) (b .lines) (f .places) (f .columns) (numbersOf (chosen .0)) (indicesOf (f .free)) (startIn b f) p q r x′ p′ q′ r′ s few narrow long e;
-        copy = area-r (b .equations) (b .lines) (f .places) (f .columns) (numbersOf (chosen .0)) (indicesOf (f .free)) (startIn b f) p q r x′ p′ q′ r′ s few narrow long e;
-      }
+          → t ≡ shownOf s (x′ ++ drop (2 * k₁) x) → FitsChosen b f chosen p q r p′ q′ r′ t
+      carried e few narrow long er et =
+          let a = shown (b .equations) (b .lines) (f .places) (f .columns) (numbersOf (chosen .0)) (indicesOf (f .free)) (startIn b f) p q r x′ p′ q′ r′ s few narrow long e (length (startIn b f)) (drop (2 * k₁) x) t er et in
+          record {
+            answer = a;
+            meaning = ap fitMeaning a ∙ meaning-is (short p q r) (length (startIn b f)) (outcomeIn b f (numbersOf (chosen .0)));
+            jacobian = area-p (b .equations) (b .lines) (f .places) (f .columns) (numbersOf (chosen .0)) (indicesOf (f .free)) (startIn b f) p q r x′ p′ q′ r′ s few narrow long e;
+            product = area-q (b .equations) (b .lines) (f .places) (f .columns) (numbersOf (chosen .0)) (indicesOf (f .free)) (startIn b f) p q r x′ p′ q′ r′ s few narrow long e;
+            copy = area-r (b .equations) (b .lines) (f .places) (f .columns) (numbersOf (chosen .0)) (indicesOf (f .free)) (startIn b f) p q r x′ p′ q′ r′ s few narrow long e;
+          }
 
 pub worst-is : (b : Build) (f : Frame) (x : List Float) (chosen : List ℕ) (r : List Float) (m : Float) → chosen ≡ numbersOf (f .equations .0)
     → r ≡ valuesAt (b .equations) (b .lines) (f .places) chosen x → m ≡ maxAbsOf r → m ≡ worstOf b f x

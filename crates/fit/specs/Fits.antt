@@ -1,86 +1,31 @@
--- equations.rs, `fit`, `freedom` and `conflicts`, of a group that is set out: what each comes to, and what each call leaves in the
--- lent areas, for every input.
-use Prim.Native.Nat.{ℕ, _-_, _*_, _≤_}
-use mathlib.Core.Bool.{Bool, true, false, cond, _||_}
-use mathlib.Core.List.{List, _++_}
-use mathlib.Core.Path.{_≡_}
-use lib.Dec.{ltb}
+-- equations.rs, `fit`, `freedom` and `conflicts`, of a group that is set out: what each comes to.
+use Prim.Native.Nat.{ℕ, _-_}
+use mathlib.Core.Bool.{Bool, true, false}
+use mathlib.Core.List.{List}
 use lib.Ieee.{Float}
-use lib.ListN.{length, take, drop, set, replicate}
-use Rattle.floats.specs.Only.{only-answer}
-use Rattle.floats.specs.Ops.{zero⁺}
-use Rattle.loops.specs.Numbers.{Meaning, refused, values, tooShort, tooManyRows}
+use lib.ListN.{length, set, replicate}
 use Rattle.loops.specs.Turns.{fold}
 use Rattle.members.specs.Lists.{numbersOf, withoutOf}
 use Rattle.members.specs.Movable.{indicesOf}
-use Rattle.members.specs.declared.Equations.{Equations}
 use Rattle.nullspace.specs.Promise.{decomposedOf}
 use Rattle.nullspace.specs.Steps.{rankOf}
-use Rattle.nullspace.specs.declared.NullSpace.{NullSpace}
 use Rattle.rounds.specs.Problem.{rowCount, valuesAt, jacobianAt}
-use Rattle.rounds.specs.Promise.{outcomeOf, zeroed, saying}
+use Rattle.rounds.specs.Promise.{outcomeOf}
 use Rattle.rounds.specs.Solve.{Outcome, converged, failed}
-use Rattle.rounds.specs.declared.FitEnding.{FitEnding}
-use Rattle.rounds.specs.declared.FitEnding.the-variants.{Converged, Failed, TooMany, TooShort}
-use Rattle.rounds.specs.declared.Solved.{Solved}
 use Rattle.sketch.specs.declared.Build.{Build}
 use Rattle.solver.specs.Sums.{maxAbsOf}
 use Rattle.fit.specs.Frames.{startIn}
-use Rattle.fit.specs.declared.Fitted.{Fitted}
 use Rattle.fit.specs.declared.Frame.{Frame}
-use Rattle.fit.specs.declared.Degrees.{Degrees}
-use Rattle.fit.specs.declared.Marked.{Marked}
 
--- ---- the fit
-
--- with the equations of these numbers
+-- `fit`, with the equations of these numbers
 abbrev pub outcomeIn : Build → Frame → List ℕ → Outcome
 outcomeIn b f chosen = outcomeOf (b .equations) (b .lines) (f .places) (f .columns) chosen (indicesOf (f .free)) (startIn b f)
 
--- at the head of 80 places
-abbrev pub padded : ℕ → List Float → List Float
-padded n x = x ++ replicate (80 - n) zero⁺
-
--- only a fit that converged shows coordinates
-abbrev pub shownOf : Solved → List Float → Fitted
-shownOf s x = record { solved = s; x = shownBy (s .ending) }
-  where
-    shownBy : FitEnding → List Float
-    shownBy Converged = x
-    shownBy Failed = replicate 80 zero⁺
-    shownBy TooMany = replicate 80 zero⁺
-    shownBy TooShort = replicate 80 zero⁺
-
-abbrev pub fittedBy : ℕ → Outcome → Fitted
-fittedBy n (converged x i t) = record { solved = saying Converged i t; x = padded n x }
-fittedBy n (failed i t) = record { solved = saying Failed i t; x = replicate 80 zero⁺ }
-
-abbrev pub refusal : Fitted
-refusal = record { solved = saying TooShort 0 0; x = replicate 80 zero⁺ }
-
-abbrev pub short : List Float → List Float → List Float → Bool
-short p q r = ltb (length p) 6400 || ltb (length q) 6400 || ltb (length r) 6400
-
--- how many places of an area a fit takes: its Jacobian, and its product with its copy
-abbrev pub wide : Build → Frame → List ℕ → ℕ
-wide b f chosen = rowCount (b .equations) chosen * length (indicesOf (f .free))
-
-abbrev pub square : Build → List ℕ → ℕ
-square b chosen = rowCount (b .equations) chosen * rowCount (b .equations) chosen
-
-pub record Fits (b : Build) (f : Frame) (chosen : Equations) (p q r p′ q′ r′ : List Float) (t : Fitted) : Type 0 where
-  pub answer : t ≡ cond (short p q r) refusal (fittedBy (length (startIn b f)) (outcomeIn b f (numbersOf (chosen .0))))
-  pub jacobian : p′ ≡ cond (short p q r) p (zeroed (wide b f (numbersOf (chosen .0))) p)
-  pub product : q′ ≡ cond (short p q r) q (zeroed (square b (numbersOf (chosen .0))) q)
-  pub copy : r′ ≡ cond (short p q r) r (zeroed (square b (numbersOf (chosen .0))) r)
-
--- ---- the largest residual magnitude at x
-
+-- the largest residual magnitude at x
 unfoldable pub worstOf : Build → Frame → List Float → Float
 worstOf b f x = maxAbsOf (valuesAt (b .equations) (b .lines) (f .places) (numbersOf (f .equations .0)) x)
 
--- ---- the freedom at x: free coordinates minus rank
-
+-- `freedom`, its number: free coordinates minus rank, at x
 unfoldable pub gradientsOf : Build → Frame → List Float → List Float
 gradientsOf b f x = jacobianAt (b .equations) (b .lines) (f .places) (numbersOf (f .equations .0)) (f .columns) (length (indicesOf (f .free))) x
 
@@ -89,51 +34,11 @@ freedomOf b f x =
     let n = length (indicesOf (f .free)) in
     n - rankOf (decomposedOf (rowCount (b .equations) (numbersOf (f .equations .0))) n (gradientsOf b f x))
 
-abbrev pub frameOverRows : Build → Frame → Bool
-frameOverRows b f = ltb 64 (rowCount (b .equations) (numbersOf (f .equations .0)))
-
--- 01's numbers for the call, in 01's order: 9, then 6
-abbrev pub meaningOf : Degrees → Meaning ℕ
-meaningOf (Degrees.Of n) = values n
-meaningOf Degrees.TooShort = refused tooShort
-meaningOf Degrees.TooManyRows = refused tooManyRows
-
-abbrev pub checked : {A : Type 0} → Build → Frame → List Float → List Float → List Float → A → A → A → A
-checked b f p q r nine six done = cond (short p q r) nine (cond (frameOverRows b f) six done)
-
-pub record Frees (b : Build) (f : Frame) (x p q r p′ q′ r′ : List Float) (t : Degrees) : Type 0 where
-  pub answer : t ≡ checked b f p q r Degrees.TooShort Degrees.TooManyRows (Degrees.Of (freedomOf b f x))
-  pub meaning : meaningOf t ≡ checked b f p q r (refused tooShort) (refused tooManyRows) (values (freedomOf b f x))
-  pub jacobian : p′ ≡ checked b f p q r p p (zeroed (wide b f (numbersOf (f .equations .0))) p)
-  pub work : q′ ≡ checked b f p q r q q (zeroed (wide b f (numbersOf (f .equations .0))) q)
-  pub basis : r′ ≡ checked b f p q r r r (zeroed (length (indicesOf (f .free)) * length (indicesOf (f .free))) r)
-
--- the gradients at the head of an area, and how many rows they are
-pub record Lays (b : Build) (f : Frame) (nf : ℕ) (x p p′ : List Float) (rows : ℕ) : Type 0 where
-  pub counted : rows ≡ rowCount (b .equations) (numbersOf (f .equations .0))
-  pub few : rows ≤ 80
-  pub long : length (gradientsOf b f x) ≡ rows * nf
-  pub laid : p′ ≡ gradientsOf b f x ++ drop (rows * nf) p
-
--- the rank of the matrix of `rows` rows, 64 at most, and `n` columns at the head of p
-pub record Ranks (rows n : ℕ) (p q r p′ q′ r′ : List Float) (s : NullSpace) : Type 0 where
-  pub answer : s ≡ NullSpace.Rank (rankOf (decomposedOf rows n (take (rows * n) p)))
-  pub matrix : p′ ≡ zeroed (rows * n) p
-  pub work : q′ ≡ zeroed (rows * n) q
-  pub basis : r′ ≡ zeroed (n * n) r
-
-abbrev pub freedBy : ℕ → NullSpace → Degrees
-freedBy n (NullSpace.Rank k) = Degrees.Of (n - k)
-freedBy n NullSpace.TooMany = Degrees.TooManyRows
-freedBy n NullSpace.TooShort = Degrees.TooShort
-
--- ---- the suspects: `conflicts`
-
+-- `conflicts`: without equation k the rest converges
 abbrev pub converges : Outcome → Bool
 converges (converged x i t) = true
 converges (failed i t) = false
 
--- without equation k the rest converges
 unfoldable pub suspect : Build → Frame → ℕ → Bool
 suspect b f k = converges (outcomeIn b f (withoutOf k (numbersOf (f .equations .0))))
 
@@ -143,52 +48,3 @@ mark b f marks k = set marks k (suspect b f k)
 
 unfoldable pub suspectsOf : Build → Frame → List Bool
 suspectsOf b f = fold (mark b f) (replicate 40 false) (numbersOf (f .equations .0))
-
--- each fit without one equation leaves the areas +0.0 where it used them
-abbrev pub withouts : Build → Frame → ℕ → List ℕ
-withouts b f k = withoutOf k (numbersOf (f .equations .0))
-
-unfoldable pub jacobianLeft : Build → Frame → List Float → ℕ → List Float
-jacobianLeft b f p k = zeroed (wide b f (withouts b f k)) p
-
-unfoldable pub productLeft : Build → Frame → List Float → ℕ → List Float
-productLeft b f q k = zeroed (square b (withouts b f k)) q
-
--- the fit without equation k, and without each in turn, in areas that are long enough
-pub record Tests (b : Build) (f : Frame) (k : ℕ) (p q r p′ q′ r′ : List Float) (t : Bool) : Type 0 where
-  pub answer : t ≡ suspect b f k
-  pub jacobian : p′ ≡ jacobianLeft b f p k
-  pub product : q′ ≡ productLeft b f q k
-  pub copy : r′ ≡ productLeft b f r k
-
-pub record Suspects (b : Build) (f : Frame) (p q r p′ q′ r′ : List Float) (t : List Bool) : Type 0 where
-  pub answer : t ≡ suspectsOf b f
-  pub jacobian : p′ ≡ fold (jacobianLeft b f) p (numbersOf (f .equations .0))
-  pub product : q′ ≡ fold (productLeft b f) q (numbersOf (f .equations .0))
-  pub copy : r′ ≡ fold (productLeft b f) r (numbersOf (f .equations .0))
-
--- 9 where an area is too short, or the marks
-abbrev pub markedOf : Marked → Meaning (List Bool)
-markedOf t = cond (t .short) (refused tooShort) (values (t .marks))
-
-pub record Marks (b : Build) (f : Frame) (p q r p′ q′ r′ : List Float) (t : Marked) : Type 0 where
-  pub answer : t ≡ cond (short p q r) (record { short = true; marks = replicate 40 false }) (record { short = false; marks = suspectsOf b f })
-  pub meaning : markedOf t ≡ cond (short p q r) (refused tooShort) (values (suspectsOf b f))
-  pub jacobian : p′ ≡ cond (short p q r) p (fold (jacobianLeft b f) p (numbersOf (f .equations .0)))
-  pub product : q′ ≡ cond (short p q r) q (fold (productLeft b f) q (numbersOf (f .equations .0)))
-  pub copy : r′ ≡ cond (short p q r) r (fold (productLeft b f) r (numbersOf (f .equations .0)))
-
--- ---- no second answer, and no other content of a lent place, meets a promise
-
-module _ {b : Build} {f : Frame} {p q r p₁ q₁ r₁ p₂ q₂ r₂ : List Float} where
-  pub only-fit : {chosen : Equations} {t u : Fitted} → Fits b f chosen p q r p₁ q₁ r₁ t → Fits b f chosen p q r p₂ q₂ r₂ u → (t ≡ u) × (p₁ ≡ p₂) × (q₁ ≡ q₂) × (r₁ ≡ r₂)
-  only-fit m n =
-      (only-answer (m .answer) (n .answer), only-answer (m .jacobian) (n .jacobian), only-answer (m .product) (n .product), only-answer (m .copy) (n .copy))
-
-  pub only-freedom : {x : List Float} {t u : Degrees} → Frees b f x p q r p₁ q₁ r₁ t → Frees b f x p q r p₂ q₂ r₂ u → (t ≡ u) × (p₁ ≡ p₂) × (q₁ ≡ q₂) × (r₁ ≡ r₂)
-  only-freedom m n =
-      (only-answer (m .answer) (n .answer), only-answer (m .jacobian) (n .jacobian), only-answer (m .work) (n .work), only-answer (m .basis) (n .basis))
-
-  pub only-marks : {t u : Marked} → Marks b f p q r p₁ q₁ r₁ t → Marks b f p q r p₂ q₂ r₂ u → (t ≡ u) × (p₁ ≡ p₂) × (q₁ ≡ q₂) × (r₁ ≡ r₂)
-  only-marks m n =
-      (only-answer (m .answer) (n .answer), only-answer (m .jacobian) (n .jacobian), only-answer (m .product) (n .product), only-answer (m .copy) (n .copy))

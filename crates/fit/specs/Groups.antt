@@ -17,7 +17,8 @@ use Rattle.rows.specs.Column.{rowsAt}
 use Rattle.rows.specs.Entries.{Row}
 use Rattle.sketch.specs.declared.Build.{Build}
 use Rattle.solver.specs.Sums.{AllWithin}
-use Rattle.fit.specs.Fits.{outcomeIn, worstOf, freedomOf, frameOverRows, converges, suspectsOf}
+use Rattle.fit.specs.Fits.{outcomeIn, worstOf, freedomOf, converges, suspectsOf}
+use Rattle.fit.specs.Promise.{frameOverRows}
 use Rattle.fit.specs.Frames.{frameOf}
 use Rattle.fit.specs.declared.Frame.{Frame}
 

@@ -1,6 +1,8 @@
 // The fit of a frame with some of its equations, and the residuals there.
 ghost use mathlib.Core.Path.{_≡_};
-ghost use Rattle.fit.specs.Fits.{Fits, shownOf, worstOf};
+ghost use Rattle.fit.specs.Fits.{worstOf};
+ghost use Rattle.fit.specs.Inside.{shownOf};
+ghost use Rattle.fit.specs.Promise.{FitsChosen};
 use crate::Fitted;
 use crate::Frame;
 use loops::smaller;
@@ -40,7 +42,7 @@ pub fn fit(
     q: &mut [f64],
     r: &mut [f64],
 ) -> Fitted
-    ensures { λ t. ⌜ Fits b f chosen (now (p .entry)) (now (q .entry)) (now (r .entry)) (now (p .exit)) (now (q .exit)) (now (r .exit)) t ⌝ }
+    ensures { λ t. ⌜ FitsChosen b f chosen (now (p .entry)) (now (q .entry)) (now (r .entry)) (now (p .exit)) (now (q .exit)) (now (r .exit)) t ⌝ }
 {
     let points = b.points;
     let centre = b.centre;

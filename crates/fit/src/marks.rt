@@ -2,7 +2,8 @@
 ghost use mathlib.Core.Bool.{false};
 ghost use mathlib.Core.Path.{_≡_};
 ghost use lib.ListN.{set};
-ghost use Rattle.fit.specs.Fits.{Marks, Suspects, Tests, short};
+ghost use Rattle.fit.specs.Inside.{Suspects, Tests};
+ghost use Rattle.fit.specs.Promise.{Marks, short};
 use crate::Frame;
 use crate::Marked;
 use crate::fits::fit;

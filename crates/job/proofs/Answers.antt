@@ -9,7 +9,7 @@ use lib.ListN.{length, take}
 use lib.Seq.{length-take-le}
 use Rattle.answer.specs.Endings.{refusedOf, failedOf}
 use Rattle.answer.specs.declared.Answer.{Answer}
-use Rattle.fit.specs.Fits.{Marks, short}
+use Rattle.fit.specs.Promise.{Marks, short}
 use Rattle.fit.specs.Frames.{frameOf}
 use Rattle.fit.specs.declared.Frame.{Frame}
 use Rattle.fit.specs.declared.Marked.{Marked}

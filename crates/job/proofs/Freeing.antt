@@ -10,7 +10,8 @@ use lib.Dec.{eqb}
 use lib.Ieee.{Float}
 use lib.ListN.{length, getD, length-take}
 use Rattle.groups.proofs.Forest.{getD-any}
-use Rattle.fit.specs.Fits.{Frees, short, freedomOf, frameOverRows}
+use Rattle.fit.specs.Fits.{freedomOf}
+use Rattle.fit.specs.Promise.{Frees, short, frameOverRows}
 use Rattle.fit.specs.declared.Degrees.{Degrees}
 use Rattle.fit.specs.declared.Frame.{Frame}
 use Rattle.loops.specs.Turns.{upTo}

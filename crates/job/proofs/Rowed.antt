@@ -13,7 +13,8 @@ use lib.Ieee.{Float}
 use lib.ListN.{length, getD, take, drop, drop-of-length-le, length-take, List·getD-eq-default}
 use lib.Seq.{drop-cons, getD-take}
 use Rattle.fit.proofs.Sets.{equations-back}
-use Rattle.fit.specs.Fits.{freedomOf, frameOverRows}
+use Rattle.fit.specs.Fits.{freedomOf}
+use Rattle.fit.specs.Promise.{frameOverRows}
 use Rattle.fit.specs.Groups.{freedomIn, frameIn}
 use Rattle.groups.proofs.Theorem.{groups-are-chains}
 use Rattle.groups.specs.Chains.{Touches, placesFrom, equationsIn}

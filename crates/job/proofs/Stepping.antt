@@ -6,7 +6,8 @@ use mathlib.Core.Path.{_≡_, sym, ap, _∙_}
 use native.Mathlib.Omega.{arith}
 use lib.Ieee.{Float}
 use lib.ListN.{length, set}
-use Rattle.fit.specs.Fits.{Fits, short, outcomeIn, fittedBy, worstOf}
+use Rattle.fit.specs.Fits.{outcomeIn, worstOf}
+use Rattle.fit.specs.Promise.{FitsChosen, short, fittedBy}
 use Rattle.fit.specs.Frames.{frameOf, startIn}
 use Rattle.fit.specs.declared.Fitted.{Fitted}
 use Rattle.fit.specs.declared.Frame.{Frame}
@@ -44,7 +45,7 @@ converged-by b f g d d′ (converged x i k) t e h q = ap fits (rw e at q)
 converged-by b f g d d′ (failed i k) t e h q = let z : _≡_ {A = Bool} false true = rw e at h in cc
 
 module _ (b : Build) (gr : Grouping) (g : ℕ) (d : Doing) (f : Frame) (t : Fitted) (p q r p′ q′ r′ : List Float) (c : Bool) (set-out : f ≡ frameOf (b .points) gr g)
-    (room : short p q r ≡ false) (e : Fits b f (f .equations) p q r p′ q′ r′ t) (k : c ≡ convergedBy (t .solved .ending)) where
+    (room : short p q r ≡ false) (e : FitsChosen b f (f .equations) p q r p′ q′ r′ t) (k : c ≡ convergedBy (t .solved .ending)) where
   pub one-failed : c ≡ false → fails g (t .solved .iterations) (t .solved .tries) ≡ stepOf b gr g d
   unfolding stepOf
   one-failed h = rw (← set-out) (failed-by b f g d (length (startIn b f)) (outcomeIn b f (numbersOf (f .equations .0))) t (e .answer ∙ rw room) (sym k ∙ h))

@@ -10,7 +10,8 @@ use borrow.Author.Tests.{lt-ltb, ltb-true}
 use lib.Dec.{ltb}
 use lib.Ieee.{Float}
 use lib.ListN.{length}
-use Rattle.fit.specs.Fits.{converges, padded}
+use Rattle.fit.specs.Fits.{converges}
+use Rattle.fit.specs.Promise.{padded}
 use Rattle.fit.specs.Frames.{startIn}
 use Rattle.fit.specs.Groups.{outcomeAt, frameIn}
 use Rattle.groups.specs.Listed.{groupingOf}

@@ -8,7 +8,8 @@ use lib.Ieee.{Float}
 use lib.ListN.{length, getD, set, replicate}
 use Rattle.answer.specs.Endings.{blankGroup, failedOf, fittedOf}
 use Rattle.answer.specs.declared.Answer.{Answer}
-use Rattle.fit.specs.Fits.{padded, worstOf}
+use Rattle.fit.specs.Fits.{worstOf}
+use Rattle.fit.specs.Promise.{padded}
 use Rattle.fit.specs.Frames.{startIn}
 use Rattle.fit.specs.Groups.{lowestOf, freedomIn, frameIn, outcomeAt, suspectsAt, lowestAt}
 use Rattle.fit.specs.declared.Frame.{Frame}

@@ -6,7 +6,8 @@ use borrow.Author.Needs.{needs}
 use lib.ListN.{length, drop}
 use Rattle.loops.specs.Turns.{fold}
 use Rattle.members.specs.Lists.{numbersOf}
-use Rattle.fit.specs.Fits.{mark, suspectsOf, jacobianLeft, productLeft}
+use Rattle.fit.specs.Fits.{mark, suspectsOf}
+use Rattle.fit.specs.Promise.{jacobianLeft, productLeft}
 use Rattle.fit.proofs.MarksLaws.{still-long, marked, turn-next, turns-over}
 use Rattle.fit.proofs.marks.each.Statement.{statement}
 use Rattle.fit.proofs.marks.each.Tie as tie
