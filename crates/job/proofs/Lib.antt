@@ -10,6 +10,7 @@
 --     Rowed      no group of a build that passes has more than 64 rows
 --     Theorem    each number exactly when its row says
 --     Sentences  what a user would say of a job
+--     Measured   measures are taken from what is handed out
 pub mod Laying
 pub mod Refusing
 pub mod Freeing
@@ -21,3 +22,4 @@ pub mod Few
 pub mod Rowed
 pub mod Theorem
 pub mod Sentences
+pub mod Measured

@@ -82,7 +82,7 @@ module _ (b : Build) where
     passes : Sound b out p q r → checkOf b ≡ Passes
     passes s = checked.given-exactly b .passes .1 (s .counts, s .numbers, s .items, s .rows)
 
-    verdict-passes : Sound b out p q r → verdictOf b out p q r ≡ Passes
+    pub verdict-passes : Sound b out p q r → verdictOf b out p q r ≡ Passes
     unfolding verdictOf
     verdict-passes s = rw (s .counts, s .room) (passes s)
 

@@ -29,16 +29,16 @@ use Rattle.job.proofs.Few.{all-counted}
 -- ---- the groups: the first that fails, or all fit
 
 module _ (b : Build) (gr : Grouping) where
-  none-left : (g : ℕ) (d : Doing) → groupsFrom b gr zero g d ≡ fits d
+  pub none-left : (g : ℕ) (d : Doing) → groupsFrom b gr zero g d ≡ fits d
   unfolding groupsFrom
   none-left g d = refl
 
-  goes-on : (k g : ℕ) (d : Doing) (x : List Float) (i t : ℕ) → outcomeAt b gr g ≡ converged x i t
+  pub goes-on : (k g : ℕ) (d : Doing) (x : List Float) (i t : ℕ) → outcomeAt b gr g ≡ converged x i t
       → groupsFrom b gr (suc k) g d ≡ groupsFrom b gr k (g + 1) (takenOf b (frameIn b gr g) g (padded (length (startIn b (frameIn b gr g))) x) i t d)
   unfolding groupsFrom stepOf
   goes-on k g d x i t e = rw e
 
-  stops : (k g : ℕ) (d : Doing) (i t : ℕ) → outcomeAt b gr g ≡ failed i t → groupsFrom b gr (suc k) g d ≡ fails g i t
+  pub stops : (k g : ℕ) (d : Doing) (i t : ℕ) → outcomeAt b gr g ≡ failed i t → groupsFrom b gr (suc k) g d ≡ fails g i t
   unfolding groupsFrom stepOf
   stops k g d i t e = rw e
 
@@ -150,7 +150,7 @@ seventh false false false false true f = (λ h. (cc, cc, cc, cc, cc, cc), λ h. 
 seventh false false false false false true = (λ h. (cc, cc, cc, cc, cc, cc), λ h. cc)
 seventh false false false false false false = (λ h. (cc, cc, cc, cc, cc, cc), λ h. cc)
 
-noughth : (o n u m r f : Bool) → firstRow o n u m r f ≡ 0 ↔ (o ≡ false) × (n ≡ false) × (u ≡ false) × (m ≡ false) × (r ≡ false) × (f ≡ false)
+pub noughth : (o n u m r f : Bool) → firstRow o n u m r f ≡ 0 ↔ (o ≡ false) × (n ≡ false) × (u ≡ false) × (m ≡ false) × (r ≡ false) × (f ≡ false)
 noughth true n u m r f = (λ h. (cc, cc, cc, cc, cc, cc), λ h. cc)
 noughth false true u m r f = (λ h. (cc, cc, cc, cc, cc, cc), λ h. cc)
 noughth false false true m r f = (λ h. (cc, cc, cc, cc, cc, cc), λ h. cc)

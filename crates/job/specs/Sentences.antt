@@ -1,11 +1,11 @@
 -- Sentences on a job that a user would say, of every build and every length of what is lent. Proved in proofs/Sentences.antt.
-use Prim.Native.Nat.{ℕ, _<_}
+use Prim.Native.Nat.{ℕ, _+_, _*_, _<_}
 use mathlib.Core.Bool.{Bool, true, false}
-use mathlib.Core.List.{List, List·Memᴰ}
+use mathlib.Core.List.{List, _++_, List·Memᴰ}
 use mathlib.Core.Logic.{_↔_, _⊎_, _≢_}
 use mathlib.Core.Path.{_≡_}
 use lib.Ieee.{Float}
-use lib.ListN.{length, getD}
+use lib.ListN.{length, getD, drop}
 use Rattle.answer.specs.Endings.{failedOf}
 use Rattle.answer.specs.declared.Answer.{Answer}
 use Rattle.fit.specs.Fits.{converges}
@@ -14,12 +14,13 @@ use Rattle.floats.specs.Ops.{1e-12}
 use Rattle.groups.specs.Chains.{Touches, equationsIn, Lowest}
 use Rattle.groups.specs.Listed.{groupingOf}
 use Rattle.groups.specs.Touches.{touchedBy}
+use Rattle.measures.specs.Gauges.{gaugedOf}
 use Rattle.rounds.specs.Promise.{zeroed}
 use Rattle.rounds.specs.Solve.{converged, failed}
 use Rattle.sketch.specs.declared.Build.{Build}
 use Rattle.solver.specs.Sums.{AllWithin}
 use Rattle.job.specs.Given.{fitsAt}
-use Rattle.job.specs.Promise.{numberIn, verdictOf, verdict, answerAfter, areaAfter}
+use Rattle.job.specs.Promise.{numberIn, verdictOf, verdict, answerAfter, outputAfter, areaAfter}
 
 -- equation k is in group g, which converged at x, and its residuals there are within the tolerance
 pub record Holds (b : Build) (k : ℕ) : Type 0 where
@@ -41,6 +42,14 @@ pub record Failing (b : Build) (g : ℕ) : Type 0 where
 -- residuals at the group's fitted coordinates is finite and of magnitude at most 1e-12
 abbrev pub FittedMeansFitted : Build → ℕ → ℕ → ℕ → ℕ → Type 0
 FittedMeansFitted b out p q r = numberIn b out p q r ≡ 0 → (k point : ℕ) → Touches (touchedBy b) k point → Holds b k
+
+-- a measure is taken from the points that are handed out: after 0 the output is the points, two numbers each, then the measures at these
+-- points, and the rest is as it was
+abbrev pub MeasuresAsHandedOut : Build → Type 0
+MeasuresAsHandedOut b = (out p q r : List Float) → numberIn b (length out) (length p) (length q) (length r) ≡ 0
+    → (points : List Float)
+    × (length points ≡ 2 * b .«point_count»)
+    × (outputAfter b out (verdict b out p q r) ≡ points ++ (gaugedOf b points ++ drop (2 * b .«point_count» + b .«measure_count») out))
 
 -- 7 names the lowest group that does not converge: the answer has its lowest point and the iterations and tries of its own fit, and marks
 -- equation k exactly when it is in that group and the group without it converges

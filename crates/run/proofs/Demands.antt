@@ -4,6 +4,7 @@ use Rattle.fit.proofs.Theorem.{own-part-alone}
 use Rattle.fit.specs.Table.{both-sides}
 use Rattle.grammar.proofs.Theorem.{reads-form, one-reading}
 use Rattle.groups.proofs.Theorem.{groups-are-chains}
+use Rattle.job.proofs.Measured.{measures-as-handed-out}
 use Rattle.job.proofs.Sentences.{areas-after, fitted-means-fitted, failure-named}
 use Rattle.job.proofs.Theorem.{given-exactly, hands-out-nothing}
 use Rattle.reply.proofs.Printed.{suspects-are}
@@ -24,6 +25,7 @@ demands = record {
   printed = failures-printed;
   suspects = suspects-are;
   fitted = fitted-means-fitted;
+  measured = measures-as-handed-out;
   root = rounded;
   root-once = rounded-unique;
   groups = groups-are-chains;

@@ -16,7 +16,7 @@ use Rattle.groups.specs.Chains.{GroupsAreChains}
 use Rattle.groups.specs.Listed.{groupingOf}
 use Rattle.groups.specs.Touches.{touchedBy}
 use Rattle.job.specs.Given.{GivenExactly, HandsOutNothing}
-use Rattle.job.specs.Sentences.{FittedMeansFitted, FailureNamed, AreasAfter}
+use Rattle.job.specs.Sentences.{FittedMeansFitted, MeasuresAsHandedOut, FailureNamed, AreasAfter}
 use Rattle.reply.specs.Theorems.{SuspectsAre}
 use Rattle.root.specs.Root.{sqrtOf}
 use Rattle.root.specs.Rounded.{Rounded}
@@ -48,6 +48,8 @@ pub record Demands : Type 0 where
   pub suspects : (marks : List Bool) → SuspectsAre marks
   -- 0 means fitted: each residual of each equation is finite and at most 1e-12
   pub fitted : (b : Build) (out p q r : ℕ) → FittedMeansFitted b out p q r
+  -- and a measure is taken from the points that are handed out
+  pub measured : (b : Build) → MeasuresAsHandedOut b
   -- ---- 2. the square root is correctly rounded; the rest equals definitions that follow the Rust, which each room's promises are
 
   pub root : (x : Float) → T (positive x) → T (fits binary64 x) → Rounded x (sqrtOf x)
