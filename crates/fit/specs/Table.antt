@@ -1,7 +1,7 @@
 -- Document 01, "Both sides of the line": its cases (a) to (l), proved of the definitions as one table, `both-sides`. Each room has its
 -- cases worked beside its definitions; here they stand together, in 01's order. Assumes nothing.
 use Prim.Native.Nat.{ℕ, zero, suc}
-use mathlib.Core.Bool.{true, false}
+use mathlib.Core.Bool.{false}
 use mathlib.Core.List.{List, [], _∷_}
 use mathlib.Core.Path.{_≡_, refl}
 use lib.Ieee.{Float, nan, inf, ofBits, binary64}

@@ -11,6 +11,7 @@ use native.Mathlib.Decide.{ℕ-discrete, decLt}
 use native.Mathlib.Omega.{arith}
 use lib.ListN.{length, getD, set, take, replicate, length-take, getD-replicate, List·getD-eq-default}
 use lib.Seq.{getD-take, getD-set-same, getD-set-other}
+use Rattle.loops.proofs.Parts.{any-default}
 use Rattle.sketch.specs.Involved.{involvedOf, touchedOf}
 use Rattle.sketch.specs.declared.Active.{Active}
 use Rattle.sketch.specs.declared.Equation.{Equation}
@@ -20,7 +21,6 @@ use Rattle.sketch.specs.declared.Touched.{Touched}
 use Rattle.groups.specs.Touches.{number, numbersOf, untouched, touchesIn, touchedIn}
 use Rattle.sketch.specs.Blank.{blankActive}
 use Rattle.groups.proofs.Counted.{taken}
-use Rattle.groups.proofs.Forest.{getD-any}
 
 -- an equation touches at most four points, so none is cut off
 whole : (ls : List Line) (e : Equation) → numbersOf (touchedOf (involvedOf ls e)) ≡ map number (involvedOf ls e)
@@ -54,12 +54,12 @@ touched-is : (es : List Active) (ls : List Line) (n k : ℕ) (d : Active) (t : T
     → t ≡ touchedOf (involvedOf ls (getD es k d .equation)) → numbersOf t ≡ touchedIn (take n es) ls k
 unfolding touchedIn
 touched-is es ls n k d t h e =
-    rw (e, getD-take n es k blankActive (omega (arith, length-take n es)), getD-any es k blankActive d (omega (arith, length-take n es)))
+    rw (e, getD-take n es k blankActive (omega (arith, length-take n es)), any-default es k blankActive d (omega (arith, length-take n es)))
     (whole ls (getD es k d .equation))
 
 pub row-at : (ts : List Touched) (k : ℕ) (d : Touched) → k < length ts → numbersOf (getD ts k d) ≡ touchesIn ts k
 unfolding touchesIn
-row-at ts k d h = ap numbersOf (getD-any ts k d untouched h)
+row-at ts k d h = ap numbersOf (any-default ts k d untouched h)
 
 pub blank : (ls : List Line) (u : Touched) (j : ℕ) → u ≡ untouched → touchesIn (replicate 40 u) j ≡ touchedIn [] ls j
 unfolding touchesIn touchedIn

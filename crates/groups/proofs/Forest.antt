@@ -1,6 +1,5 @@
 -- Laws of the parents. `rt ps x` is the root of x with no path halved; halving keeps every root, and a join makes the larger
 -- root's points the smaller's.
---     getD-any              what stands at a place does not turn on the default
 --     root-next, root-done  `rootOf` goes as the Rust's loop does
 --     Kept                  parents with the same roots; what `rootOf` leaves
 --     root-is               what `rootOf` answers
@@ -8,23 +7,18 @@
 -- Assumes nothing.
 use Prim.Native.Nat.{ℕ, zero, suc, _+_, _≤_, _<_, max, min}
 use mathlib.Core.Bool.{Bool, true, false, cond}
-use mathlib.Core.List.{List, [], _∷_}
+use mathlib.Core.List.{List}
 use mathlib.Core.Logic.{_⊎_, inl, inr, _≢_}
 use mathlib.Core.Path.{_≡_, refl, sym, ap, _∙_, subst}
 use native.Mathlib.Decide.{ℕ-discrete, decLt}
-use native.Mathlib.Nat.{not-suc-le-zero, le-of-suc-le-suc, max-eq-left, max-eq-right, min-eq-left, min-eq-right}
+use native.Mathlib.Nat.{not-suc-le-zero, max-eq-left, max-eq-right, min-eq-left, min-eq-right}
 use native.Mathlib.Omega.{arith}
 use borrow.Author.Tests.{eqb-true, eqb-false, eq-eqb, ne-eqb}
 use lib.Dec.{eqb}
-use lib.ListN.{length, getD, set, replicate, length-set, List·getD-eq-default}
+use lib.ListN.{length, set, replicate, length-set, List·getD-eq-default}
 use lib.Seq.{getD-set-same, getD-set-other, set-out}
 use Rattle.groups.specs.Parents.{up, Falls, halved, climb, rootOf, joinTo, selfAt, alone}
 use Rattle.loops.proofs.Keeps.{upTo-keeps}
-
-pub getD-any : {A : Type 0} (l : List A) (i : ℕ) (d e : A) → i < length l → getD l i d ≡ getD l i e
-getD-any [] i d e h = absurd (not-suc-le-zero h)
-getD-any (x ∷ l) zero d e h = refl
-getD-any (x ∷ l) (suc i) d e h = getD-any l i d e (le-of-suc-le-suc h)
 
 -- after a store a point's parent is what was stored, or what it was
 stored : (ps : List ℕ) (x v y : ℕ) → ((y ≡ x) × (up (set ps x v) y ≡ v)) ⊎ (up (set ps x v) y ≡ up ps y)

@@ -10,6 +10,7 @@ use borrow.Author.Tests.{eq-eqb, ne-eqb, not-true, not-false}
 use lib.Dec.{eqb}
 use lib.ListN.{length, getD, set, drop, length-take}
 use lib.Seq.{getD-take}
+use Rattle.loops.proofs.Parts.{any-default}
 use Rattle.loops.specs.Turns.{upTo, fold}
 use Rattle.loops.proofs.Turning.{upTo-next}
 use Rattle.sketch.specs.declared.Touched.{Touched}
@@ -18,7 +19,7 @@ use Rattle.groups.specs.Parents.{up, Falls, Gives, halved, rootOf, joinT
 use Rattle.groups.specs.Tied.{tieAll, tiedOf}
 use Rattle.groups.specs.Touches.{numberAt, numbersOf}
 use Rattle.groups.specs.declared.Listing.{Listing}
-use Rattle.groups.proofs.Forest.{getD-any, root-next, root-done, root-kept, root-is, rt-low, join-falls, halved-falls, halved-up}
+use Rattle.groups.proofs.Forest.{root-next, root-done, root-kept, root-is, rt-low, join-falls, halved-falls, halved-up}
 use Rattle.loops.proofs.Keeps.{upTo-keeps}
 
 -- a turn of `root`: u and a are x's parent, b is a's, v is x's parent after the store
@@ -107,17 +108,17 @@ root-low ps x r f e = rw (e, root-is ps x f) (rt-low ps f x)
 
 pub numbered-has : (r : ℕ) (s : Listing) → r < length (s .index) → getD (s .index) r 0 ≢ 40 → s ≡ numberedOf r s
 unfolding numberedOf
-numbered-has r s h n = rw (ne-eqb (getD (s .index) r 40) 40 (λ e. n (getD-any (s .index) r 0 40 h ∙ e)))
+numbered-has r s h n = rw (ne-eqb (getD (s .index) r 40) 40 (λ e. n (any-default (s .index) r 0 40 h ∙ e)))
 
 pub numbered-new : (r : ℕ) (s : Listing) → r < length (s .index) → getD (s .index) r 0 ≡ 40
     → record { index = set (s .index) r (s .count); «of_point» = s .«of_point»; count = s .count + 1 } ≡ numberedOf r s
 unfolding numberedOf
-numbered-new r s h e = rw (eq-eqb (getD (s .index) r 40) 40 (getD-any (s .index) r 40 0 h ∙ e))
+numbered-new r s h e = rw (eq-eqb (getD (s .index) r 40) 40 (any-default (s .index) r 40 0 h ∙ e))
 
 pub entered-is : (r q : ℕ) (s n : Listing) → r < length (n .index) → n ≡ numberedOf r s
     → record { index = n .index; «of_point» = set (n .«of_point») q (getD (n .index) r 0); count = n .count } ≡ enteredOf r q s
 unfolding enteredOf
-entered-is r q s n h e = rw (getD-any (n .index) r 0 40 h, e)
+entered-is r q s n h e = rw (any-default (n .index) r 0 40 h, e)
 
 module _ (q : ℕ) (g : Gives Listing) where
   pub point-not : (b : Bool) → not b ≡ true → g ≡ pointOf b q g

@@ -9,11 +9,11 @@ use borrow.Author.Tests.{le-ltb}
 use lib.Dec.{eqb}
 use lib.Ieee.{Float}
 use lib.ListN.{length, getD, length-take}
-use Rattle.groups.proofs.Forest.{getD-any}
 use Rattle.fit.specs.Fits.{freedomOf}
 use Rattle.fit.specs.Promise.{Frees, short, frameOverRows}
 use Rattle.fit.specs.declared.Degrees.{Degrees}
 use Rattle.fit.specs.declared.Frame.{Frame}
+use Rattle.loops.proofs.Parts.{any-default}
 use Rattle.loops.specs.Turns.{upTo}
 use Rattle.loops.proofs.Turning.{upTo-next}
 use Rattle.members.specs.Movable.{fixedOf, nowhere, indicesOf}
@@ -52,7 +52,7 @@ module _ (b : Build) (f : Frame) (x p q r p′ q′ r′ : List Float) (t : Degr
 
 pub loose-is : (points : List Point) (of : List ℕ) (d : Point) (v : ℕ) (p : ℕ) (o : Bool) → length points ≡ 40 → length of ≡ 40 → p < 40
     → o ≡ fixedOf (getD points p d) → eqb (getD of p v) 40 && not o ≡ looseIn points of p
-loose-is points of d v p o l m h e = rw (e, getD-any points p d nowhere (rw l h), getD-any of p v 0 (rw m h))
+loose-is points of d v p o l m h e = rw (e, any-default points p d nowhere (rw l h), any-default of p v 0 (rw m h))
 
 pub loose-turn : (points : List Point) (of : List ℕ) (n p k k′ R : ℕ) (o : Bool) → p < n → k′ ≡ cond o (k + 1) k → o ≡ looseIn points of p
     → upTo n p (looseAt points of) k ≡ R → upTo n (p + 1) (looseAt points of) k′ ≡ R

@@ -4,7 +4,7 @@ use mathlib.Core.List.{List, map}
 use mathlib.Core.Path.{_≡_, sym, _∙_}
 use lib.Ieee.{Float}
 use lib.ListN.{length, getD, length-map}
-use Rattle.groups.proofs.Forest.{getD-any}
+use Rattle.loops.proofs.Parts.{any-default}
 use Rattle.loops.specs.Turns.{upTo}
 use Rattle.loops.proofs.Turning.{upTo-next}
 use Rattle.members.specs.Movable.{nowhere}
@@ -18,7 +18,7 @@ sized f n l e = sym (length-map l f) ∙ e
 
 module _ (points : List Point) (d : Point) (p : ℕ) (out out′ R : List Float) (l : length points ≡ 40) (h : p < 40) where
   same : getD points p d ≡ getD points p nowhere
-  same = getD-any points p d nowhere (rw l h)
+  same = any-default points p d nowhere (rw l h)
 
   pub drawn-turn : out′ ≡ putPoint p (getD points p d .start) out → upTo 40 p (drawnAt points) out ≡ R → upTo 40 (p + 1) (drawnAt points) out′ ≡ R
   unfolding drawnAt

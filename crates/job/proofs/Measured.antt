@@ -1,7 +1,7 @@
 -- `measures-as-handed-out` (specs/Sentences.antt): the points of a job keep their length through fits, places and levels, so that they are
 -- the head of the output, and the measures behind them are taken at them. Assumes nothing.
 use Prim.Native.Nat.{ℕ, zero, suc, _+_, _*_, _≤_, min}
-use mathlib.Core.Bool.{Bool, true, false, cond, true≢false}
+use mathlib.Core.Bool.{Bool, false, true≢false}
 use mathlib.Core.List.{List}
 use mathlib.Core.Path.{_≡_, refl, sym, ap, _∙_}
 use native.Mathlib.Nat.{min-eq-left}
@@ -18,6 +18,7 @@ use Rattle.level.specs.Fixed.{fixedOf}
 use Rattle.level.specs.Level.{joined, place, follows, levelPoint, levelPoints, levelAxis, levelOf}
 use Rattle.level.specs.Parents.{Gives, alone, findOf}
 use Rattle.loops.proofs.Keeps.{upTo-keeps}
+use Rattle.loops.proofs.Picks.{either}
 use Rattle.loops.specs.Turns.{upTo}
 use Rattle.members.specs.Lists.{numbersOf}
 use Rattle.members.specs.Movable.{nowhere}
@@ -47,10 +48,6 @@ module _ {S : Type 0} (size : S → ℕ) (f : ℕ → S → S) (hi : ℕ) (step 
   sized : (s : S) → size (upTo hi 0 f s) ≡ size s
   sized s = upTo-keeps (λ i t. size t ≡ size s) f hi (λ i t h e. step i t ∙ e) 0 s (omega arith) refl
 
-either : {A : Type 0} (size : A → ℕ) (b : Bool) (x y : A) (n : ℕ) → size x ≡ n → size y ≡ n → size (cond b x y) ≡ n
-either size true x y n e d = e
-either size false x y n e d = d
-
 put : (p : ℕ) (q : Vec2) (out : List Float) → length (putPoint p q out) ≡ length out
 put p q out = rw (length-set, length-set)
 
@@ -65,7 +62,7 @@ module _ (points : List Point) (centre : Vec2) (size : Float) (ps : List ℕ) (x
       let p = getD ps k 0 in
       let q = getD points p nowhere in
       let at = backTo centre size (q .state) (q .start) (coordinatesAt x k) in
-      either length (ltb p (length points)) (putPoint p at out) out (length out) (put p at out) refl
+      either (λ l. length l ≡ length out) (ltb p (length points)) (putPoint p at out) out (put p at out) refl
 
   unscale-sized : (out : List Float) → length (unscaleOf points centre size ps x out) ≡ length out
   unfolding unscaleOf
@@ -86,7 +83,7 @@ module _ (fixed : List Bool) (es : List Active) (n : ℕ) where
   level-turn axis p s =
       let r = findOf (s .parents) p in
       let v = getD (s .answer) (place axis (r .answer)) nan in
-      either length (follows fixed (r .answer) p) (set (s .answer) (place axis p) v) (s .answer) (length (s .answer)) (rw length-set) refl
+      either (λ l. length l ≡ length (s .answer)) (follows fixed (r .answer) p) (set (s .answer) (place axis p) v) (s .answer) (rw length-set) refl
 
   axis-sized : (axis : ℕ) (points : List Float) → length (levelAxis fixed es n axis points) ≡ length points
   unfolding levelAxis levelPoints

@@ -1,12 +1,13 @@
 -- The order of the refusals, and what a build that passes them all has. Assumes nothing.
 use Prim.Native.Nat.{ℕ, _+_, _*_, _≤_}
-use mathlib.Core.Bool.{Bool, true, false, _||_}
+use mathlib.Core.Bool.{Bool, true, false}
 use mathlib.Core.Path.{_≡_, refl}
 use native.Mathlib.Omega.{arith}
 use borrow.Author.Tests.{ltb-false}
 use lib.Dec.{ltb}
 use mir.Syntax.{w64}
 use mir.Val.{Fits}
+use Rattle.loops.proofs.Picks.{none-of-four}
 use Rattle.sketch.proofs.Within.{within}
 use Rattle.sketch.specs.Check.{overBound, checkOf}
 use Rattle.sketch.specs.declared.Build.{Build}
@@ -28,12 +29,6 @@ passed false true Passes h = (cc, cc, cc)
 passed false false (Ends e) h = (cc, cc, cc)
 passed false false Passes h = (refl, refl, refl)
 
-none : (o p q r : Bool) → o || p || q || r ≡ false → (o ≡ false) × (p ≡ false) × (q ≡ false) × (r ≡ false)
-none true p q r h = (cc, cc, cc, cc)
-none false true q r h = (cc, cc, cc, cc)
-none false false true r h = (cc, cc, cc, cc)
-none false false false r h = (refl, refl, refl, h)
-
 -- what a build that passes has, with what is lent
 pub record Room (b : Build) (out p q r : ℕ) : Type 0 where
   pub points : b .«point_count» ≤ 40
@@ -51,7 +46,7 @@ module _ (b : Build) (out p q r : ℕ) (h : verdictOf b out p q r ≡ Passes) wh
   pub room : Room b out p q r
   room =
       let w = within b (steps .0) in
-      let n = none (ltb out (2 * b .«point_count» + b .«measure_count»)) (ltb p 8192) (ltb q 8192) (ltb r 8192) (steps .1) in
+      let n = none-of-four (ltb out (2 * b .«point_count» + b .«measure_count»)) (ltb p 8192) (ltb q 8192) (ltb r 8192) (steps .1) in
       record {
         points = w .0;
         measures = w .3;

@@ -5,14 +5,15 @@
 --     tail-part    the part `&mut a[st..]` is a from st on
 --     past-tail    what a is when that part has come back as y
 --     get-past, set-past    a read and a write past the front p of a list
+--     any-default           within a list the default is not asked for
 -- Assumes nothing.
-use Prim.Native.Nat.{ℕ, _+_, _-_, _≤_}
+use Prim.Native.Nat.{ℕ, suc, _+_, _-_, _≤_, _<_}
 use mathlib.Core.List.{List, [], _∷_, _++_, append-nil}
 use mathlib.Core.Path.{_≡_, sym, ap, _∙_}
 use native.Mathlib.Nat.{suc-add, zero-add}
 use native.Mathlib.Omega.{arith}
 use lib.ListN.{length, getD, take, drop, set, replicate, length-drop, drop-of-length-le}
-use lib.Seq.{length-take-le, length-front, take-all, take-at, drop-at, getD-append-add}
+use lib.Seq.{length-take-le, length-front, take-all, take-at, drop-at, getD-append-add, drop-cons}
 
 module _ {A : Type 0} where
   pub front : (k : ℕ) (a : List A) → k ≤ length a → k ≡ length (take k a)
@@ -44,3 +45,8 @@ module _ {A : Type 0} where
 
   pub set-past : (p t : List A) (st i : ℕ) (v : A) → length p ≡ st → set (p ++ t) (st + i) v ≡ p ++ set t i v
   set-past p t st i v e = rw (← e) (past p t i v)
+
+  pub any-default : (l : List A) (i : ℕ) (d e : A) → i < length l → getD l i d ≡ getD l i e
+  any-default l i d e h =
+      let p : getD l i d ∷ drop (suc i) l ≡ getD l i e ∷ drop (suc i) l = sym (drop-cons l i d h) ∙ drop-cons l i e h in
+      cc

@@ -7,7 +7,7 @@ use native.Mathlib.Omega.{arith}
 use borrow.Author.Tests.{lt-ltb, le-ltb}
 use lib.Ieee.{Float}
 use lib.ListN.{length, getD, List·getD-eq-default}
-use Rattle.groups.proofs.Forest.{getD-any}
+use Rattle.loops.proofs.Parts.{any-default}
 use Rattle.plane.specs.declared.Vec2.{Vec2}
 use Rattle.sketch.specs.declared.Point.{Point}
 use Rattle.members.specs.Movable.{nowhere, knownOf}
@@ -18,7 +18,7 @@ module _ (points : List Point) (p place : ℕ) (d : Point) (e : length points �
   q = getD points place d
 
   there : p < 40 → q ≡ getD points p nowhere
-  there l = let same : place ≡ p = omega arith in ap (λ i. getD points i d) same ∙ getD-any points p d nowhere (omega arith)
+  there l = let same : place ≡ p = omega arith in ap (λ i. getD points i d) same ∙ any-default points p d nowhere (omega arith)
 
   pub known-is : (r : Point) → r ≡ knownOf p q → r ≡ getD points p nowhere
   unfolding knownOf

@@ -16,6 +16,7 @@ use lib.ListN.{length, take, drop, set, replicate, length-append, length-drop, l
 use lib.Seq.{length-take-le, take-at, drop-at}
 use lib.Ieee.{Float, lt, eq}
 use Rattle.floats.specs.Ops.{_⊘_, zero⁺, one}
+use Rattle.loops.proofs.Picks.{either}
 use Rattle.loops.proofs.Cells.{cell-row}
 use Rattle.loops.proofs.Keeps.{upTo-keeps}
 use Rattle.loops.specs.Turns.{go, stop, upTo}
@@ -25,7 +26,7 @@ use Rattle.nullspace.specs.Steps.{push, collect, item, rowAt, scaledBy, 
 use Rattle.nullspace.specs.Layout.{addUnit, unitRows, turns-on, firstOf, turned, LaidQr, laid, laidOn, laidTurn, laidOut, laidRank, laidReflectors, reflectByRow, laidVector, addVector, laidBasis}
 use Rattle.nullspace.proofs.Both.{upTo-both, whileTo-both, downTo-same, downTo-foldr}
 use Rattle.nullspace.proofs.Flat.{Wide, wide-append, flatten-push, length-flatten, row-is, rows-are}
-use Rattle.nullspace.proofs.Reflects.{either, reflect-length}
+use Rattle.nullspace.proofs.Reflects.{reflect-length}
 use Rattle.nullspace.proofs.Turned as turn
 
 -- ---- rows that are collected
@@ -54,7 +55,7 @@ unit-long : (row : List Float) → length (unitOf row) ≡ length row
 unfolding unitOf scaledBy
 unit-long row =
     let len : Float = sqrtOf (norm2Of row) in
-    either (lt zero⁺ len) (map (λ v. v ⊘ len) row) row (length row) (length-map row (λ v. v ⊘ len)) refl
+    either (λ l. length l ≡ length row) (lt zero⁺ len) (map (λ v. v ⊘ len) row) row (length-map row (λ v. v ⊘ len)) refl
 
 row-long : (rows n i : ℕ) (m : List Float) → rows * n ≤ length m → i < rows → length (unitAt n m i) ≡ n
 unfolding unitAt

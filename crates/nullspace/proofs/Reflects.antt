@@ -2,7 +2,6 @@
 --     reflect-length    a row that is reflected stays as long
 --     rows-reflected    each later row reflected, one after another
 use Prim.Native.Nat.{ℕ, suc, _+_, _-_, _*_, _<_}
-use mathlib.Core.Bool.{Bool, true, false, cond}
 use mathlib.Core.List.{List, [], _∷_, _++_, map, zipWith, flatten, append-nil, append-assoc}
 use mathlib.Core.Path.{_≡_, refl, sym, ap, _∙_}
 use native.Mathlib.Omega.{arith}
@@ -11,6 +10,7 @@ use lib.Seq.{set-append-left}
 use lib.Ieee.{Float, nan, ne}
 use Rattle.floats.specs.Ops.{_⊖_, _⊗_, _⊘_, zero⁺, zero⁻, two}
 use Rattle.loops.proofs.Parts.{get-past, set-past}
+use Rattle.loops.proofs.Picks.{either, of-cond}
 use Rattle.loops.specs.Turns.{turns, upTo}
 use Rattle.solver.specs.Steps.{at, lessPast}
 use Rattle.nullspace.specs.Steps.{dotOf, lessAll, reflectOf}
@@ -20,21 +20,13 @@ use Rattle.nullspace.proofs.Flat.{Wide}
 use Rattle.nullspace.proofs.Zips.{zip-long, zip-dot, zip-less}
 
 -- a function of what a test picks
-pub of-cond : {A B : Type 0} (φ : A → B) (b : Bool) (x y : A) → cond b (φ x) (φ y) ≡ φ (cond b x y)
-of-cond φ true x y = refl
-of-cond φ false x y = refl
-
 -- ---- a row that is reflected stays as long
-
-pub either : (b : Bool) (x y : List Float) (n : ℕ) → length x ≡ n → length y ≡ n → length (cond b x y) ≡ n
-either true x y n e q = e
-either false x y n e q = q
 
 less-length : (v : List Float) (f : Float) (c : List Float) → length v ≡ length c → length (lessAll v f c) ≡ length c
 unfolding lessAll
 less-length v f c e =
     let g : Float → Float → Float = λ ci vi. ci ⊖ f ⊗ vi in
-    either (ne f zero⁺) (zipWith g c v) c (length c) (zip-long g c v (sym e)) refl
+    either (λ l. length l ≡ length c) (ne f zero⁺) (zipWith g c v) c (zip-long g c v (sym e)) refl
 
 pub reflect-length : (v : List Float) (vv : Float) (c : List Float) → length v ≡ length c → length (reflectOf v vv c) ≡ length c
 unfolding reflectOf

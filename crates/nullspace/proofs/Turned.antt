@@ -13,6 +13,7 @@ use lib.Ieee.{Float, nan}
 use Rattle.floats.specs.Magnitude.{magnitudeOf}
 use Rattle.floats.specs.Ops.{zero⁺}
 use Rattle.loops.proofs.Keeps.{upTo-keeps}
+use Rattle.loops.proofs.Picks.{of-cond}
 use Rattle.loops.specs.Turns.{upTo}
 use Rattle.loops.proofs.Turning.{upTo-part}
 use Rattle.root.specs.Root.{sqrtOf}
@@ -20,7 +21,7 @@ use Rattle.solver.specs.Sums.{norm2Of}
 use Rattle.nullspace.specs.Steps.{item, reflectOf, normOf, longer, bestOf, swapped, away, reflectorOf, reflectFrom}
 use Rattle.nullspace.specs.Layout.{normAt, longerRow, longestOf, swapHead, reflectorAt, largestNorm, begun, turned}
 use Rattle.nullspace.proofs.Flat.{Wide, wide-append, wide-take, wide-drop, wide-set, wide-map, wide-at, rest-is}
-use Rattle.nullspace.proofs.Reflects.{of-cond, reflect-length, rows-reflected}
+use Rattle.nullspace.proofs.Reflects.{reflect-length, rows-reflected}
 use Rattle.nullspace.proofs.Swaps.{rows-swapped}
 
 -- ---- the reflector is made in place of its column, with b behind it

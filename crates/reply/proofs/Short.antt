@@ -1,5 +1,5 @@
 -- No reply is longer than 8,192 bytes: line by line. Assumes nothing.
-use mathlib.Core.Bool.{Bool, true, false, cond}
+use mathlib.Core.Bool.{Bool, false}
 use mathlib.Core.List.{List, []}
 use mathlib.Core.Path.{_≡_}
 use Prim.Native.Nat.{ℕ, zero, suc, _+_, _*_, _≤_, min}
@@ -10,6 +10,7 @@ use lib.ListN.{length, length-append, getD}
 use Rattle.answer.specs.Endings.{blankGroup}
 use Rattle.answer.specs.declared.Answer.{Answer}
 use Rattle.answer.specs.declared.GroupFit.{GroupFit}
+use Rattle.loops.proofs.Picks.{either}
 use Rattle.sketch.specs.Check.{numberOf}
 use Rattle.sketch.specs.declared.Ending.{Ending}
 use Rattle.sketch.specs.declared.Ending.the-variants.{Fitted, TooLong, BadForm, TooMany, OutOfBounds, NoSuchItem, TooManyRows, NotConverged, TooShort}
@@ -18,10 +19,6 @@ use Rattle.reply.specs.Figures.{comma, newline, whole, float}
 use Rattle.reply.specs.Lines.{statusLine, totalLines, groupLine, failedLine, suspectLine, pointLine, measureLine}
 use Rattle.reply.specs.Reply.{rising, groupLines, outputLines, fittedLines, markCount, failedLines, linesAfter, replyOf}
 use Rattle.reply.specs.Theorems.{NoneLonger}
-
-either : (b : Bool) (x y : List ℕ) (k : ℕ) → length x ≤ k → length y ≤ k → length (cond b x y) ≤ k
-either true x y k h q = h
-either false x y k h q = q
 
 whole-short : (n b : ℕ) → length (whole n b) ≤ 21
 unfolding whole
@@ -51,7 +48,7 @@ failed-short g = simp length-append (omega (arith, whole-short (g .lowest) comma
 
 suspect-short : (suspects : List Bool) (k : ℕ) → length (suspectLine suspects k) ≤ 23
 unfolding suspectLine
-suspect-short suspects k = either (getD suspects k false) _ [] 23 (omega (arith, whole-short k newline)) (omega arith)
+suspect-short suspects k = either (λ l. length l ≤ 23) (getD suspects k false) _ [] (omega (arith, whole-short k newline)) (omega arith)
 
 point-short : (out : List Float) (i : ℕ) → length (pointLine out i) ≤ 36
 unfolding pointLine

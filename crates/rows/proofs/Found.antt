@@ -7,6 +7,7 @@ use native.Mathlib.Omega.{arith}
 use borrow.Author.Tests.{ltb-true, ltb-false}
 use lib.Dec.{ltb}
 use lib.ListN.{length, getD, List·getD-eq-default}
+use Rattle.loops.proofs.Parts.{any-default}
 use Rattle.plane.specs.declared.Vec2.{Vec2}
 use Rattle.sketch.specs.Involved.{noLine, lineAt}
 use Rattle.sketch.specs.declared.Equation.{Equation}
@@ -18,7 +19,6 @@ use Rattle.rows.proofs.Given.{given}
 use Rattle.rows.specs.Kinds.{rowsOfEquation}
 use Rattle.rows.specs.declared.Ends.{Ends}
 use Rattle.rows.specs.declared.LineNos.{LineNos}
-use Rattle.rows.proofs.Within.{any-default}
 
 module _ (ls : List Line) (h : length ls ≡ 40) (d : Line) where
   end-found : (l : LineNo) → endOf l (getD ls (placeOf l) d) ≡ lineAt ls l

@@ -1,5 +1,4 @@
 pub mod Bounded
 pub mod Found
 pub mod Held
-pub mod Within
 pub mod Given

@@ -15,6 +15,7 @@ use Rattle.job.proofs.Theorem.{given-exactly}
 use Rattle.job.specs.Given.{SomeFails, AllFit, Sound, GivenExactly}
 use Rattle.job.specs.Groups.{fitOf}
 use Rattle.job.specs.Promise.{noRoom, numberIn, firstRow, unfit, answerAfter}
+use Rattle.loops.proofs.Picks.{denied}
 use Rattle.sketch.proofs.Looked.{looks-everywhere}
 use Rattle.sketch.specs.Check.{numberOf, overBound, outOfBounds, refersToNothing, overRows}
 use Rattle.sketch.specs.Indices.{SomeMissing}
@@ -23,7 +24,6 @@ use Rattle.sketch.specs.Rows.{rowsOfBuild}
 use Rattle.sketch.specs.declared.Build.{Build}
 use Rattle.sketch.specs.declared.Ending.{Ending}
 use Rattle.sketch.specs.declared.Ending.the-variants.{Fitted, TooLong, BadForm, TooMany, OutOfBounds, NoSuchItem, TooManyRows, NotConverged, TooShort}
-use Rattle.spelling.proofs.Steps.{never}
 use Rattle.run.specs.Promise.{room, came}
 use Rattle.run.specs.Texts.{Passed}
 
@@ -46,11 +46,6 @@ at-number TooShort = refl
 -- no two endings have one number
 pub by-number : (e f : Ending) → numberOf e ≡ numberOf f → e ≡ f
 by-number e f h = at-number e ∙ ap endingAt h ∙ sym (at-number f)
-
--- what a test that fails denies
-denied : {A : Type 0} (t : Bool) → (t ≡ true ↔ A) → t ≡ false ↔ (A → ⊥)
-denied true e = (λ h. absurd (never _ h refl), λ n. absurd (n (e .0 refl)))
-denied false e = (λ h a. never _ refl (e .1 a), λ n. refl)
 
 -- neither 3 nor 9 comes after them
 not-before : (u m r f : Bool) → (firstRow false false u m r f ≢ 3) × (firstRow false false u m r f ≢ 9)

@@ -1,32 +1,17 @@
 -- `looks-everywhere`: 4 and 5 over the fields of a build. Assumes nothing.
-use mathlib.Core.Bool.{Bool, true, false, not}
+use mathlib.Core.Bool.{true, not}
 use mathlib.Core.Logic.{_↔_}
-use mathlib.Core.Path.{_≡_, refl, sym, ap, subst}
+use mathlib.Core.Path.{_≡_, ap}
 use borrow.Author.Tests.{not-true}
-use lib.Dec.{T}
-use lib.Ieee.{Float, nan, inf, fin, le, lt, eq, neg, ofBits}
-use lib.Ieee.Scale.{finite}
+use Rattle.loops.proofs.Picks.{denied}
 use Rattle.sketch.specs.Check.{outOfBounds, refersToNothing}
-use Rattle.sketch.specs.Fields.{Field, buildFields}
+use Rattle.sketch.specs.Fields.{buildFields}
 use Rattle.sketch.specs.Indices.{foundIn, SomeMissing}
 use Rattle.sketch.specs.Looked.{LooksEverywhere}
-use Rattle.sketch.specs.Numbers.{bounded, boundedField, SomeOut}
+use Rattle.sketch.specs.Numbers.{boundedField, SomeOut}
 use Rattle.sketch.specs.declared.Build.{Build}
 use Rattle.sketch.proofs.Every.{every-not, not-every}
 use Rattle.sketch.proofs.Given.{given-exactly}
-
--- what is within the bound is neither a NaN nor an infinity
-pub bounded-finite : (x : Float) → bounded x ≡ true → finite x ≡ true
-unfolding le lt eq neg ofBits
-bounded-finite nan h = h
-bounded-finite (inf true) h = h
-bounded-finite (inf false) h = h
-bounded-finite (fin s m e) h = refl
-
--- a test that is false, and one that is true exactly where something is there
-denied : {A : Type 0} (t : Bool) → (t ≡ true ↔ A) → t ≡ false ↔ (A → ⊥)
-denied true e = (λ h. absurd (subst T h tt), λ n. absurd (n (e .0 refl)))
-denied false e = (λ h a. absurd (subst T (sym (e .1 a)) tt), λ n. refl)
 
 module _ (b : Build) where
   out-exactly : outOfBounds b ≡ true ↔ SomeOut b

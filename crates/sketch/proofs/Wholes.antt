@@ -15,7 +15,6 @@ use Rattle.sketch.specs.declared.Active.{Active}
 use Rattle.sketch.specs.declared.Build.{Build}
 use Rattle.sketch.specs.declared.Line.{Line}
 use Rattle.sketch.specs.declared.Measured.{Measured}
-use Rattle.sketch.specs.declared.Point.{Point}
 use Rattle.sketch.specs.declared.State.{State}
 use Rattle.sketch.specs.declared.State.the-variants.{Free, Kept, Placed}
 use Rattle.sketch.proofs.Chained.{bounded-chain}

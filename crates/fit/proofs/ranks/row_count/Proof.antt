@@ -4,9 +4,9 @@ use mathlib.Core.Path.{_≡_, refl, sym, ap, _∙_}
 use native.Mathlib.Omega.{arith}
 use borrow.Author.Needs.{needs}
 use lib.ListN.{length, take, drop, length-take, length-map}
+use Rattle.loops.proofs.Parts.{any-default}
 use Rattle.loops.specs.Turns.{fold}
 use Rattle.rounds.specs.Problem.{moreRows}
-use Rattle.rows.proofs.Within.{any-default}
 use Rattle.sketch.specs.Blank.{blankActive}
 use Rattle.sketch.proofs.AtMostTwo.{two-at-most}
 use Rattle.sketch.specs.declared.Active.{Active}
@@ -53,9 +53,6 @@ loop-again c =
       omega (arith, l .loop .inv .1),
       no-row (b .equations) (own .items) (m .numbers .result) (l .loop .i) (l .loop .rows) room (c .before .loop-test .taken) _ (l .loop .inv .2) (omega (arith, c .if1 .taken, sized)),
     )
-
-mul-a : tie.Need-mul-a Inv-loop μ-loop
-mul-a c = search needs
 
 add-rows : tie.Need-add-rows Inv-loop μ-loop
 add-rows c =
@@ -109,7 +106,7 @@ row-count-spec =
     add-i
     loop-less
     loop-again
-    mul-a
+    (λ c. search needs)
     (λ c. search needs)
     (λ c κs. search needs)
     add-rows

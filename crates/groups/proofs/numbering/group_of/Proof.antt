@@ -4,13 +4,13 @@ use mathlib.Core.List.{List}
 use mathlib.Core.Path.{_≡_, refl, sym}
 use borrow.Author.Needs.{needs}
 use lib.ListN.{getD, List·getD-eq-default, length}
-use Rattle.groups.proofs.Forest.{getD-any}
 use Rattle.groups.proofs.Laws.{touched-none, touched-owned}
 use Rattle.groups.proofs.numbering.group_of.Statement.{statement}
 use Rattle.groups.proofs.numbering.group_of.Tie as tie
+use Rattle.loops.proofs.Parts.{any-default}
 
 read : (l : List ℕ) (r q : ℕ) → r < length l → r ≡ q → getD l r 0 ≡ getD l q 40
-read l r q h e = rw (← e) (getD-any l r 0 40 h)
+read l r q h e = rw (← e) (any-default l r 0 40 h)
 
 past : (l : List ℕ) (r q : ℕ) → length l ≤ r → r ≡ q → 40 ≡ getD l q 40
 past l r q h e = rw (← e) (sym (List·getD-eq-default l 40 h))

@@ -2,12 +2,12 @@
 use mathlib.Core.Path.{sym}
 use borrow.Author.Needs.{needs}
 use lib.ListN.{List·getD-eq-default}
-use Rattle.groups.proofs.Forest.{getD-any}
 use Rattle.groups.proofs.parents.up.Statement.{statement}
 use Rattle.groups.proofs.parents.up.Tie as tie
+use Rattle.loops.proofs.Parts.{any-default}
 
 returns : tie.Need-returns
-returns c = getD-any (c .before .before .args .p .now) (c .before .before .args .x) _ _ (search needs)
+returns c = any-default (c .before .before .args .p .now) (c .before .before .args .x) _ _ (search needs)
 
 returns-2 : tie.Need-returns-2
 returns-2 c = sym (List·getD-eq-default (c .before .args .p .now) (c .before .args .x) (c .if1 .left))

@@ -4,6 +4,7 @@ use mathlib.Core.Path.{_≡_, refl, ap, _∙_}
 use borrow.Author.Tests.{lt-ltb, le-ltb}
 use borrow.Author.Needs.{needs}
 use lib.ListN.{length, drop}
+use Rattle.loops.proofs.Parts.{any-default}
 use Rattle.loops.proofs.Picks.{pick-yes, pick-no}
 use Rattle.loops.specs.Turns.{fold}
 use Rattle.loops.proofs.Turning.{fold-done}
@@ -13,7 +14,6 @@ use Rattle.sketch.specs.Blank.{blankActive}
 use Rattle.rows.specs.Located.{atOf}
 use Rattle.rows.proofs.Found.{found-rows}
 use Rattle.rows.proofs.Held.{values-turn, values-past}
-use Rattle.rows.proofs.Within.{any-default}
 use Rattle.rows.proofs.sweep.residuals.Statement.{statement}
 use Rattle.rows.proofs.sweep.residuals.Tie as tie
 

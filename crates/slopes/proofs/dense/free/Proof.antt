@@ -1,7 +1,7 @@
 -- Past the table's end there is none. Assumes nothing.
 use borrow.Author.Needs.{needs}
 use lib.ListN.{List·getD-eq-default}
-use Rattle.rows.proofs.Within.{any-default}
+use Rattle.loops.proofs.Parts.{any-default}
 use Rattle.slopes.proofs.dense.free.Statement.{statement}
 use Rattle.slopes.proofs.dense.free.Tie as tie
 

@@ -6,6 +6,7 @@ use borrow.Author.Tests.{ltb-false}
 use lib.Dec.{T}
 use borrow.Author.Needs.{needs}
 use lib.ListN.{length, drop}
+use Rattle.loops.proofs.Parts.{any-default}
 use Rattle.loops.proofs.Picks.{pick-yes, pick-no}
 use Rattle.loops.specs.Turns.{fold}
 use Rattle.loops.proofs.Turning.{fold-done}
@@ -16,7 +17,6 @@ use Rattle.rows.specs.Located.{atOf}
 use Rattle.slopes.specs.Dense.{nextRow, rowsNext, jacobianOf}
 use Rattle.slopes.proofs.Held.{rows-turn, rows-past}
 use Rattle.rows.proofs.Found.{found-rows}
-use Rattle.rows.proofs.Within.{any-default}
 use Rattle.slopes.proofs.sweep.jacobian.Statement.{statement}
 use Rattle.slopes.proofs.sweep.jacobian.Tie as tie
 

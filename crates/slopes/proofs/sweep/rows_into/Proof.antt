@@ -1,7 +1,5 @@
 -- From the row's place on. Assumes nothing.
-use Prim.Native.Nat.{_+_, _*_, _≤_}
 use native.Mathlib.Omega.{arith}
-use borrow.Author.Needs.{needs}
 use Rattle.rows.specs.Ends.{rowsGiven}
 use Rattle.rows.specs.Located.{atOf}
 use Rattle.rows.proofs.Bounded.{bounded}

@@ -1,24 +1,19 @@
 -- No count is over its bound, so each sort has room. Assumes nothing.
 use Prim.Native.Nat.{_≤_}
-use mathlib.Core.Bool.{Bool, true, false, _||_}
-use mathlib.Core.Path.{_≡_, refl, subst}
+use mathlib.Core.Bool.{false}
+use mathlib.Core.Path.{_≡_}
 use borrow.Author.Needs.{needs}
 use borrow.Author.Tests.{ltb-false}
-use lib.Dec.{T, ltb}
+use lib.Dec.{ltb}
+use Rattle.loops.proofs.Picks.{none-of-four}
 use Rattle.text.specs.Reader.{overCounts, buildAt}
 use Rattle.text.specs.declared.CountsRead.{CountsRead}
 use Rattle.text.proofs.reader.rest.Statement.{statement}
 use Rattle.text.proofs.reader.rest.Tie as tie
 
-none : (p q r s : Bool) → p || q || r || s ≡ false → (p ≡ false) × (q ≡ false) × (r ≡ false) × (s ≡ false)
-none true q r s h = absurd (subst T h tt)
-none false true r s h = absurd (subst T h tt)
-none false false true s h = absurd (subst T h tt)
-none false false false s h = (refl, refl, refl, h)
-
 within : (n : CountsRead) → overCounts n ≡ false → (n .points ≤ 40) × (n .lines ≤ 40) × (n .equations ≤ 40) × (n .measures ≤ 20)
 within n h =
-    let e = none (ltb 40 (n .points)) (ltb 40 (n .lines)) (ltb 40 (n .equations)) (ltb 20 (n .measures)) h in
+    let e = none-of-four (ltb 40 (n .points)) (ltb 40 (n .lines)) (ltb 40 (n .equations)) (ltb 20 (n .measures)) h in
     (ltb-false 40 _ (e .0), ltb-false 40 _ (e .1), ltb-false 40 _ (e .2), ltb-false 20 _ (e .3))
 
 points-requires : tie.Need-points-requires
