@@ -1,0 +1,114 @@
+-- How an equation or a measure is made of its kind and of what stands in its fields.
+use mathlib.Core.List.{List, map}
+use Prim.Native.Nat.{ℕ}
+use lib.Ieee.{Float}
+use lib.ListN.{getD}
+use Rattle.floats.specs.Ops.{zero⁺}
+use Rattle.sketch.specs.Blank.{filled}
+use Rattle.sketch.specs.Fields.{Field, point, line, value, size, axis, side, radius, contact}
+use Rattle.sketch.specs.declared.Contact.{Contact}
+use Rattle.sketch.specs.declared.Equation.{Equation}
+use Rattle.sketch.specs.declared.Gauge.{Gauge}
+use Rattle.sketch.specs.declared.Kind.{Kind}
+use Rattle.sketch.specs.declared.LineNo.{LineNo}
+use Rattle.sketch.specs.declared.Measure.{Measure}
+use Rattle.sketch.specs.declared.Operand.{Operand}
+use Rattle.sketch.specs.declared.PointNo.{PointNo}
+use Rattle.sketch.specs.declared.Rad.{Rad}
+
+-- what stands in a field; the parts that its sort has not are blank
+abbrev pub operand : ℕ → Float → Rad → Contact → Operand
+operand n v r k = record { number = n; value = v; rad = r; contact = k }
+
+abbrev pub noRad : Rad
+noRad = Rad.Value zero⁺
+
+abbrev pub blankOperand : Operand
+blankOperand = operand 0 zero⁺ noRad Contact.Outside
+
+abbrev pub numbered : ℕ → Operand
+numbered n = operand n zero⁺ noRad Contact.Outside
+
+abbrev pub valued : Float → Operand
+valued v = operand 0 v noRad Contact.Outside
+
+abbrev pub round : Rad → Operand
+round r = operand 0 zero⁺ r Contact.Outside
+
+abbrev pub touching : Contact → Operand
+touching k = operand 0 zero⁺ noRad k
+
+abbrev pub operandOf : Field → Operand
+operandOf (point p) = numbered (p .0)
+operandOf (line l) = numbered (l .0)
+operandOf (value v) = valued v
+operandOf (size v) = valued v
+operandOf (axis a) = numbered a
+operandOf (side s) = valued s
+operandOf (radius r) = round r
+operandOf (contact k) = touching k
+
+-- five places, which are enough for every kind
+abbrev pub five : List Operand → List Operand
+five l = filled 5 blankOperand l
+
+abbrev pub pointNo : ℕ → PointNo
+pointNo n = record { 0 = n }
+
+abbrev pub lineNo : ℕ → LineNo
+lineNo n = record { 0 = n }
+
+abbrev aPoint : List Operand → ℕ → PointNo
+aPoint f i = pointNo (getD f i blankOperand .number)
+
+abbrev aLine : List Operand → ℕ → LineNo
+aLine f i = lineNo (getD f i blankOperand .number)
+
+abbrev anAxis : List Operand → ℕ → ℕ
+anAxis f i = getD f i blankOperand .number
+
+abbrev aNumber : List Operand → ℕ → Float
+aNumber f i = getD f i blankOperand .value
+
+abbrev aRadius : List Operand → ℕ → Rad
+aRadius f i = getD f i blankOperand .rad
+
+abbrev aContact : List Operand → ℕ → Contact
+aContact f i = getD f i blankOperand .contact
+
+-- the Rust's constructor on the fields in their order
+abbrev pub equationOf : Kind → List Operand → Equation
+equationOf Kind.Coincident f = Equation.Coincident (aPoint f 0) (aPoint f 1)
+equationOf Kind.Level f = Equation.Level (aPoint f 0) (aPoint f 1) (anAxis f 2)
+equationOf Kind.Parallel f = Equation.Parallel (aLine f 0) (aLine f 1)
+equationOf Kind.Perpendicular f = Equation.Perpendicular (aLine f 0) (aLine f 1)
+equationOf Kind.Collinear f = Equation.Collinear (aLine f 0) (aLine f 1)
+equationOf Kind.Equal f = Equation.Equal (aLine f 0) (aLine f 1)
+equationOf Kind.Held f = Equation.Held
+equationOf Kind.Distance f = Equation.Distance (aPoint f 0) (aPoint f 1) (aNumber f 2)
+equationOf Kind.AxisDistance f = Equation.AxisDistance (aPoint f 0) (aPoint f 1) (anAxis f 2) (aNumber f 3) (aNumber f 4)
+equationOf Kind.Length f = Equation.Length (aLine f 0) (aNumber f 1)
+equationOf Kind.PointLine f = Equation.PointLine (aPoint f 0) (aLine f 1) (aNumber f 2) (aNumber f 3)
+equationOf Kind.ArcEnds f = Equation.ArcEnds (aPoint f 0) (aPoint f 1) (aPoint f 2)
+equationOf Kind.Radius f = Equation.Radius (aPoint f 0) (aPoint f 1) (aNumber f 2)
+equationOf Kind.LineCircle f = Equation.LineCircle (aLine f 0) (aPoint f 1) (aRadius f 2) (aNumber f 3)
+equationOf Kind.CircleCircle f = Equation.CircleCircle (aPoint f 0) (aRadius f 1) (aPoint f 2) (aRadius f 3) (aContact f 4)
+equationOf Kind.LineArcAt f = Equation.LineArcAt (aLine f 0) (aPoint f 1) (aPoint f 2)
+equationOf Kind.ArcArcAt f = Equation.ArcArcAt (aPoint f 0) (aPoint f 1) (aPoint f 2)
+equationOf Kind.Midpoint f = Equation.Midpoint (aPoint f 0) (aLine f 1)
+equationOf Kind.ArcMidpoint f = Equation.ArcMidpoint (aPoint f 0) (aPoint f 1) (aPoint f 2) (aPoint f 3)
+equationOf Kind.Symmetric f = Equation.Symmetric (aPoint f 0) (aPoint f 1) (aLine f 2)
+equationOf Kind.EqualRadius f = Equation.EqualRadius (aPoint f 0) (aPoint f 1) (aPoint f 2) (aPoint f 3)
+
+abbrev pub measureOf : Gauge → List Operand → Measure
+measureOf Gauge.Distance f = Measure.Distance (aPoint f 0) (aPoint f 1)
+measureOf Gauge.AxisDistance f = Measure.AxisDistance (aPoint f 0) (aPoint f 1) (anAxis f 2) (aNumber f 3)
+measureOf Gauge.Length f = Measure.Length (aLine f 0)
+measureOf Gauge.PointLine f = Measure.PointLine (aPoint f 0) (aLine f 1) (aNumber f 2)
+measureOf Gauge.Radius f = Measure.Radius (aPoint f 0) (aPoint f 1)
+
+abbrev pub equationFrom : Kind → List Field → Equation
+equationFrom k l = equationOf k (five (map operandOf l))
+
+abbrev pub measureFrom : Gauge → List Field → Measure
+measureFrom g l = measureOf g (five (map operandOf l))
