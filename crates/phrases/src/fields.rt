@@ -1,7 +1,6 @@
 // The fields of equations and measures, each with the comma in front of it.
 ghost use mathlib.Core.Path.{_≡_};
 ghost use Rattle.phrases.specs.Fields.{numberAt, axisAt, valueAt, sideAt, radAt, contactAt, vecAt};
-use crate::AxisRead;
 use crate::ContactRead;
 use crate::RadRead;
 use crate::VecRead;
@@ -30,15 +29,15 @@ pub(crate) fn value(s: &[u8], c: Cursor) -> FloatRead
     float(s, eat(s, c, b','))
 }
 
-pub(crate) fn axis(s: &[u8], c: Cursor) -> AxisRead
+pub(crate) fn axis(s: &[u8], c: Cursor) -> WholeRead
     ensures { λ r. ⌜ r ≡ axisAt (now (s .entry)) c ⌝ }
 {
     let x = word(s, c, b",x");
     if x.ok {
-        return AxisRead { axis: 0, next: x };
+        return WholeRead { value: 0, next: x };
     }
-    AxisRead {
-        axis: 1,
+    WholeRead {
+        value: 1,
         next: word(s, c, b",y"),
     }
 }

@@ -1,8 +1,8 @@
 // The kinds of equations by their names: the Rust's, in small letters.
 ghost use mathlib.Core.Path.{_≡_};
 ghost use Rattle.phrases.specs.Kinds.{orNamed, kindAt};
-use crate::Kind;
 use crate::KindRead;
+use sketch::Kind;
 use spelling::Cursor;
 use spelling::word;
 

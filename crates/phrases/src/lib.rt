@@ -4,7 +4,9 @@ mod equations;
 mod fields;
 mod gauges;
 mod kinds;
+mod made;
 mod operands;
+mod table;
 
 pub use equations::equation;
 pub use fields::number;
@@ -13,43 +15,26 @@ pub use gauges::measure;
 use plane::Vec2;
 use sketch::Contact;
 use sketch::Equation;
+use sketch::Kind;
 use sketch::Measure;
+use sketch::Operand;
 use sketch::Rad;
+use sketch::Sort;
 use spelling::Cursor;
 
-// The kinds of an equation, before its fields are read.
-pub enum Kind {
-    Coincident,
-    Level,
-    Parallel,
-    Perpendicular,
-    Collinear,
-    Equal,
-    Held,
-    Distance,
-    AxisDistance,
-    Length,
-    PointLine,
-    ArcEnds,
-    Radius,
-    LineCircle,
-    CircleCircle,
-    LineArcAt,
-    ArcArcAt,
-    Midpoint,
-    ArcMidpoint,
-    Symmetric,
-    EqualRadius,
+// The sorts of a kind's fields, in their order.
+pub enum Sorts {
+    None,
+    One(Sort),
+    Two(Sort, Sort),
+    Three(Sort, Sort, Sort),
+    Four(Sort, Sort, Sort, Sort),
+    Five(Sort, Sort, Sort, Sort, Sort),
 }
 
 // What was read, and the place after it.
 pub struct KindRead {
     pub kind: Kind,
-    pub next: Cursor,
-}
-
-pub struct AxisRead {
-    pub axis: usize,
     pub next: Cursor,
 }
 
@@ -65,6 +50,16 @@ pub struct ContactRead {
 
 pub struct VecRead {
     pub vec: Vec2,
+    pub next: Cursor,
+}
+
+pub struct OperandRead {
+    pub operand: Operand,
+    pub next: Cursor,
+}
+
+pub struct FieldsRead {
+    pub operands: [Operand; 5],
     pub next: Cursor,
 }
 

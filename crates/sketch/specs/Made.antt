@@ -1,11 +1,12 @@
 -- How an equation or a measure is made of its kind and of what stands in its fields.
 use mathlib.Core.List.{List, map}
 use Prim.Native.Nat.{ℕ}
-use lib.Ieee.{Float}
+use lib.Ieee.{Float, nan}
 use lib.ListN.{getD}
 use Rattle.floats.specs.Ops.{zero⁺}
 use Rattle.sketch.specs.Blank.{filled}
 use Rattle.sketch.specs.Fields.{Field, point, line, value, size, axis, side, radius, contact}
+use Rattle.sketch.specs.Involved.{noPoint}
 use Rattle.sketch.specs.declared.Contact.{Contact}
 use Rattle.sketch.specs.declared.Equation.{Equation}
 use Rattle.sketch.specs.declared.Gauge.{Gauge}
@@ -48,6 +49,10 @@ operandOf (side s) = valued s
 operandOf (radius r) = round r
 operandOf (contact k) = touching k
 
+-- what an array gives past its end
+abbrev pub absent : Operand
+absent = operand 0 nan (Rad.Point noPoint) Contact.Outside
+
 -- five places, which are enough for every kind
 abbrev pub five : List Operand → List Operand
 five l = filled 5 blankOperand l
@@ -59,22 +64,22 @@ abbrev pub lineNo : ℕ → LineNo
 lineNo n = record { 0 = n }
 
 abbrev aPoint : List Operand → ℕ → PointNo
-aPoint f i = pointNo (getD f i blankOperand .number)
+aPoint f i = pointNo (getD f i absent .number)
 
 abbrev aLine : List Operand → ℕ → LineNo
-aLine f i = lineNo (getD f i blankOperand .number)
+aLine f i = lineNo (getD f i absent .number)
 
 abbrev anAxis : List Operand → ℕ → ℕ
-anAxis f i = getD f i blankOperand .number
+anAxis f i = getD f i absent .number
 
 abbrev aNumber : List Operand → ℕ → Float
-aNumber f i = getD f i blankOperand .value
+aNumber f i = getD f i absent .value
 
 abbrev aRadius : List Operand → ℕ → Rad
-aRadius f i = getD f i blankOperand .rad
+aRadius f i = getD f i absent .rad
 
 abbrev aContact : List Operand → ℕ → Contact
-aContact f i = getD f i blankOperand .contact
+aContact f i = getD f i absent .contact
 
 -- the Rust's constructor on the fields in their order
 abbrev pub equationOf : Kind → List Operand → Equation

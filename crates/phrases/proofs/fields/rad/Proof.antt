@@ -4,11 +4,12 @@ use mathlib.Core.List.{List, [], _∷_}
 use mathlib.Core.Path.{_≡_, sym, ap, _∙_}
 use Prim.Native.Nat.{ℕ}
 use Rattle.loops.specs.Picks.{pick-yes}
+use Rattle.sketch.specs.Made.{pointNo}
 use Rattle.sketch.specs.declared.Rad.{Rad}
 use Rattle.spelling.specs.declared.Cursor.{Cursor}
 use Rattle.spelling.specs.declared.WholeRead.{WholeRead}
 use Rattle.phrases.specs.Kinds.{wordAt}
-use Rattle.phrases.specs.Fields.{numberAt, pointNo, radAt}
+use Rattle.phrases.specs.Fields.{numberAt, radAt}
 use borrow.Author.Needs.{needs}
 use Rattle.phrases.proofs.fields.rad.Statement.{statement}
 use Rattle.phrases.proofs.fields.rad.Tie as tie
