@@ -1,8 +1,10 @@
--- `shapes-are-whole`: an equation, and a measure, is built again from its shape, so the shape leaves nothing out. Assumes nothing.
+-- `shapes-are-whole`: an equation, and a measure, is made again from its shape, so the shape leaves nothing out. `fields-agree`: what is made
+-- of a kind and of fields of its sorts has that shape. Assumes nothing.
 use mathlib.Core.List.{List}
 use mathlib.Core.Path.{_≡_, refl, sym, ap, _∙_}
 use Rattle.sketch.specs.Fields.{Field, shapeOf, measureShape, ShapesAreWhole}
-use Rattle.sketch.specs.Made.{equationFrom, measureFrom}
+use Rattle.sketch.specs.Kinds.{fieldsOf, measuredFields}
+use Rattle.sketch.specs.Made.{equationFrom, measureFrom, Row, rowFields, FieldsAgree}
 use Rattle.sketch.specs.declared.Equation.{Equation}
 use Rattle.sketch.specs.declared.Gauge.{Gauge}
 use Rattle.sketch.specs.declared.Kind.{Kind}
@@ -49,3 +51,37 @@ shapes-are-whole = (
   λ e f h. sym (again e) ∙ ap fromShape h ∙ again f,
   λ d f h. sym (gauged-again d) ∙ ap fromMeasured h ∙ gauged-again f,
 )
+
+-- `fields-agree`: kind by kind
+kind-agrees : (k : Kind) (m : Row (fieldsOf k)) → let l = rowFields (fieldsOf k) m in shapeOf (equationFrom k l) ≡ (k, l)
+kind-agrees Kind.Coincident m = refl
+kind-agrees Kind.Level m = refl
+kind-agrees Kind.Parallel m = refl
+kind-agrees Kind.Perpendicular m = refl
+kind-agrees Kind.Collinear m = refl
+kind-agrees Kind.Equal m = refl
+kind-agrees Kind.Held m = refl
+kind-agrees Kind.Distance m = refl
+kind-agrees Kind.AxisDistance m = refl
+kind-agrees Kind.Length m = refl
+kind-agrees Kind.PointLine m = refl
+kind-agrees Kind.ArcEnds m = refl
+kind-agrees Kind.Radius m = refl
+kind-agrees Kind.LineCircle m = refl
+kind-agrees Kind.CircleCircle m = refl
+kind-agrees Kind.LineArcAt m = refl
+kind-agrees Kind.ArcArcAt m = refl
+kind-agrees Kind.Midpoint m = refl
+kind-agrees Kind.ArcMidpoint m = refl
+kind-agrees Kind.Symmetric m = refl
+kind-agrees Kind.EqualRadius m = refl
+
+gauge-agrees : (g : Gauge) (m : Row (measuredFields g)) → let l = rowFields (measuredFields g) m in measureShape (measureFrom g l) ≡ (g, l)
+gauge-agrees Gauge.Distance m = refl
+gauge-agrees Gauge.AxisDistance m = refl
+gauge-agrees Gauge.Length m = refl
+gauge-agrees Gauge.PointLine m = refl
+gauge-agrees Gauge.Radius m = refl
+
+pub fields-agree : FieldsAgree
+fields-agree = record { equations = kind-agrees; measures = gauge-agrees }

@@ -1,12 +1,14 @@
 -- How an equation or a measure is made of its kind and of what stands in its fields.
-use mathlib.Core.List.{List, map}
+use mathlib.Core.List.{List, [], _∷_, map}
+use mathlib.Core.Path.{_≡_}
 use Prim.Native.Nat.{ℕ}
 use lib.Ieee.{Float, nan}
 use lib.ListN.{getD}
 use Rattle.floats.specs.Ops.{zero⁺}
 use Rattle.sketch.specs.Blank.{filled}
-use Rattle.sketch.specs.Fields.{Field, point, line, value, size, axis, side, radius, contact}
+use Rattle.sketch.specs.Fields.{Field, point, line, value, size, axis, side, radius, contact, shapeOf, measureShape}
 use Rattle.sketch.specs.Involved.{noPoint}
+use Rattle.sketch.specs.Kinds.{fieldsOf, measuredFields}
 use Rattle.sketch.specs.declared.Contact.{Contact}
 use Rattle.sketch.specs.declared.Equation.{Equation}
 use Rattle.sketch.specs.declared.Gauge.{Gauge}
@@ -16,6 +18,7 @@ use Rattle.sketch.specs.declared.Measure.{Measure}
 use Rattle.sketch.specs.declared.Operand.{Operand}
 use Rattle.sketch.specs.declared.PointNo.{PointNo}
 use Rattle.sketch.specs.declared.Rad.{Rad}
+use Rattle.sketch.specs.declared.Sort.{Sort}
 
 -- what stands in a field; the parts that its sort has not are blank
 abbrev pub operand : ℕ → Float → Rad → Contact → Operand
@@ -117,3 +120,36 @@ equationFrom k l = equationOf k (five (map operandOf l))
 
 abbrev pub measureFrom : Gauge → List Field → Measure
 measureFrom g l = measureOf g (five (map operandOf l))
+
+-- what a field of a sort may hold, and fields of the sorts of a row
+abbrev pub Held : Sort → Type 0
+Held Sort.Point = PointNo
+Held Sort.Line = LineNo
+Held Sort.Value = Float
+Held Sort.Axis = ℕ
+Held Sort.Side = Float
+Held Sort.Radius = Rad
+Held Sort.Contact = Contact
+
+abbrev pub fieldOf : (f : Sort) → Held f → Field
+fieldOf Sort.Point p = point p
+fieldOf Sort.Line l = line l
+fieldOf Sort.Value v = value v
+fieldOf Sort.Axis a = axis a
+fieldOf Sort.Side s = side s
+fieldOf Sort.Radius r = radius r
+fieldOf Sort.Contact k = contact k
+
+abbrev pub Row : List Sort → Type 0
+Row [] = Unit {0}
+Row (f ∷ l) = Held f × Row l
+
+abbrev pub rowFields : (l : List Sort) → Row l → List Field
+rowFields [] m = []
+rowFields (f ∷ l) m = fieldOf f (m .0) ∷ rowFields l (m .1)
+
+-- One table: what is made of a kind and of fields of its sorts has that kind and those fields, which are what the check before the fit
+-- looks at. `fields-agree` (proofs/Rebuilt.antt).
+pub record FieldsAgree : Type 0 where
+  pub equations : (k : Kind) (m : Row (fieldsOf k)) → let l = rowFields (fieldsOf k) m in shapeOf (equationFrom k l) ≡ (k, l)
+  pub measures : (g : Gauge) (m : Row (measuredFields g)) → let l = rowFields (measuredFields g) m in measureShape (measureFrom g l) ≡ (g, l)
