@@ -5,7 +5,7 @@ use mathlib.Core.List.{List, [], _∷_, _++_, map}
 use mathlib.Core.Path.{_≡_, refl, sym, ap, ap₂, _∙_}
 use Rattle.loops.specs.Turns.{fold}
 use Rattle.phrases.specs.Fields.{numberAt, valueAt, axisAt, sideAt, radAt, contactAt, operandAt, operandsAt, pastFields}
-use Rattle.phrases.specs.declared.ContactRead.{ContactRead}
+use Rattle.phrases.specs.declared.OperandRead.{OperandRead}
 use Rattle.sketch.specs.Made.{operandOf, numbered, valued, round, touching, fieldOf, rowFields}
 use Rattle.sketch.specs.declared.Contact.{Contact}
 use Rattle.sketch.specs.declared.Operand.{Operand}
@@ -81,13 +81,13 @@ contact-found outside t h = refl
 contact-found (inside plus) t h = refl
 contact-found (inside minus) t h = refl
 
-contact-at : (s : List ℕ) (c : Cursor) → contactAt s c ≡ record { contact = contactOf (readContact s c); next = fold (eatOf s) c (touchWord (readContact s c)) }
+contact-at : (s : List ℕ) (c : Cursor) → contactAt s c ≡ record { operand = touching (contactOf (readContact s c)); next = fold (eatOf s) c (touchWord (readContact s c)) }
 unfolding contactAt pick
 contact-at s c =
-    let f : Touch → ContactRead = λ o. record { contact = contactOf o; next = fold (eatOf s) c (touchWord o) } in
+    let f : Touch → OperandRead = λ o. record { operand = touching (contactOf o); next = fold (eatOf s) c (touchWord o) } in
     let o = fold (eatOf s) c (touchWord outside) .ok in
     let p = fold (eatOf s) c (signWord plus) .ok in
-    ap (λ r. cond {A = ContactRead} o (f outside) (record { contact = Contact.Inside (r .value); next = r .next })) (side-at s c)
+    ap (λ r. cond {A = OperandRead} o (f outside) (record { operand = touching (Contact.Inside (r .value)); next = r .next })) (side-at s c)
     ∙ cond-over f o outside (inside (cond p plus minus)) ∙ ap (λ r. f (cond o outside r)) (sym (cond-over inside p plus minus))
 
 -- A radius: a word, and then a point or a float.
@@ -134,10 +134,10 @@ abbrev readRadius : List ℕ → Cursor → Radius
 readRadius s c = let k = pick byWord s c (number ∷ []) float in radiusOf k (readBy k s (fold (eatOf s) c (byWord k)))
 
 rad-at : (s : List ℕ) (c : Cursor) → let k = pick byWord s c (number ∷ []) float in
-    radAt s c ≡ record { rad = radOf (readRadius s c); next = nextBy k s (fold (eatOf s) c (byWord k)) }
+    radAt s c ≡ record { operand = round (radOf (readRadius s c)); next = nextBy k s (fold (eatOf s) c (byWord k)) }
 unfolding radAt pick valueAt
 rad-at s c =
-    cond-over (λ k. record { rad = radOf (radiusOf k (readBy k s (fold (eatOf s) c (byWord k)))); next = nextBy k s (fold (eatOf s) c (byWord k)) })
+    cond-over (λ k. record { operand = round (radOf (radiusOf k (readBy k s (fold (eatOf s) c (byWord k))))); next = nextBy k s (fold (eatOf s) c (byWord k)) })
     (fold (eatOf s) c (byWord number) .ok) number float
 
 radius-reads : Reads (λ r. ascii "," ++ radiusText r) RadiusFits readRadius (λ s c. radAt s c .next) parted
@@ -182,8 +182,8 @@ operand-is Sort.Line s c = refl
 operand-is Sort.Value s c = refl
 operand-is Sort.Axis s c = ap (λ r. numbered (r .value)) (axis-at s c)
 operand-is Sort.Side s c = ap (λ r. valued (r .value)) (side-at s c)
-operand-is Sort.Radius s c = ap (λ r. round (r .rad)) (rad-at s c)
-operand-is Sort.Contact s c = ap (λ r. touching (r .contact)) (contact-at s c)
+operand-is Sort.Radius s c = ap (λ r. r .operand) (rad-at s c)
+operand-is Sort.Contact s c = ap (λ r. r .operand) (contact-at s c)
 
 -- a reading of one of a few words
 word-field : {K : Type 0} (word : K → List ℕ) (l : List K) (d : K) (next : List ℕ → Cursor → Cursor)

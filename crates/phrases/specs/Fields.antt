@@ -17,10 +17,8 @@ use Rattle.spelling.specs.declared.Cursor.{Cursor}
 use Rattle.spelling.specs.declared.FloatRead.{FloatRead}
 use Rattle.spelling.specs.declared.WholeRead.{WholeRead}
 use Rattle.phrases.specs.Kinds.{wordAt}
-use Rattle.phrases.specs.declared.ContactRead.{ContactRead}
 use Rattle.phrases.specs.declared.FieldsRead.{FieldsRead}
 use Rattle.phrases.specs.declared.OperandRead.{OperandRead}
-use Rattle.phrases.specs.declared.RadRead.{RadRead}
 use Rattle.phrases.specs.declared.Sorts.{Sorts}
 use Rattle.phrases.specs.declared.VecRead.{VecRead}
 
@@ -44,19 +42,19 @@ sideAt s c =
     cond (plus .ok) (record { value = one; next = plus }) (record { value = neg one; next = wordAt s c (ascii ",-") })
 
 -- p and a point, or v and a float
-unfoldable pub radAt : List ℕ → Cursor → RadRead
+unfoldable pub radAt : List ℕ → Cursor → OperandRead
 radAt s c =
     let byPoint = wordAt s c (ascii ",p") in
     let p = numberAt s byPoint in
     let v = valueAt s (wordAt s c (ascii ",v")) in
-    cond (byPoint .ok) (record { rad = Rad.Point (pointNo (p .value)); next = p .next }) (record { rad = Rad.Value (v .value); next = v .next })
+    cond (byPoint .ok) (record { operand = round (Rad.Point (pointNo (p .value))); next = p .next }) (record { operand = round (Rad.Value (v .value)); next = v .next })
 
 -- o is outside, a sign is inside
-unfoldable pub contactAt : List ℕ → Cursor → ContactRead
+unfoldable pub contactAt : List ℕ → Cursor → OperandRead
 contactAt s c =
     let outside = wordAt s c (ascii ",o") in
     let sign = sideAt s c in
-    cond (outside .ok) (record { contact = Contact.Outside; next = outside }) (record { contact = Contact.Inside (sign .value); next = sign .next })
+    cond (outside .ok) (record { operand = touching Contact.Outside; next = outside }) (record { operand = touching (Contact.Inside (sign .value)); next = sign .next })
 
 -- two floats; in front of the first there is no comma
 unfoldable pub vecAt : List ℕ → Cursor → VecRead
@@ -72,20 +70,14 @@ byNumber n = record { operand = numbered (n .value); next = n .next }
 abbrev pub byValue : FloatRead → OperandRead
 byValue v = record { operand = valued (v .value); next = v .next }
 
-abbrev pub byRad : RadRead → OperandRead
-byRad r = record { operand = round (r .rad); next = r .next }
-
-abbrev pub byContact : ContactRead → OperandRead
-byContact o = record { operand = touching (o .contact); next = o .next }
-
 unfoldable pub operandAt : List ℕ → Sort → Cursor → OperandRead
 operandAt s Sort.Point c = byNumber (numberAt s c)
 operandAt s Sort.Line c = byNumber (numberAt s c)
 operandAt s Sort.Value c = byValue (valueAt s c)
 operandAt s Sort.Axis c = byNumber (axisAt s c)
 operandAt s Sort.Side c = byValue (sideAt s c)
-operandAt s Sort.Radius c = byRad (radAt s c)
-operandAt s Sort.Contact c = byContact (contactAt s c)
+operandAt s Sort.Radius c = radAt s c
+operandAt s Sort.Contact c = contactAt s c
 
 -- The fields one after another.
 abbrev pub operandsAt : List ℕ → List Sort → Cursor → List Operand

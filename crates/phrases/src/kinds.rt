@@ -11,7 +11,14 @@ fn or_named(s: &[u8], c: Cursor, found: KindRead, w: &[u8], kind: Kind) -> KindR
     ensures { λ r. ⌜ r ≡ orNamed (now (s .entry)) c found (now (w .entry)) kind ⌝ }
 {
     if found.next.ok {
-        return found;
+        let kind = found.kind;
+        return KindRead {
+            kind,
+            next: Cursor {
+                at: found.next.at,
+                ok: found.next.ok,
+            },
+        };
     }
     KindRead {
         kind,

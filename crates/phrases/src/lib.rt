@@ -13,12 +13,10 @@ pub use fields::number;
 pub use fields::vec;
 pub use gauges::measure;
 use plane::Vec2;
-use sketch::Contact;
 use sketch::Equation;
 use sketch::Kind;
 use sketch::Measure;
 use sketch::Operand;
-use sketch::Rad;
 use sketch::Sort;
 use spelling::Cursor;
 
@@ -35,16 +33,6 @@ pub enum Sorts {
 // What was read, and the place after it.
 pub struct KindRead {
     pub kind: Kind,
-    pub next: Cursor,
-}
-
-pub struct RadRead {
-    pub rad: Rad,
-    pub next: Cursor,
-}
-
-pub struct ContactRead {
-    pub contact: Contact,
     pub next: Cursor,
 }
 

@@ -1,6 +1,7 @@
 // What is made of a kind and of what stands in its fields.
 ghost use mathlib.Core.Path.{_≡_};
-ghost use Rattle.sketch.specs.Made.{equationOf, measureOf};
+ghost use Rattle.sketch.specs.Made.{radIn, contactIn, equationOf, measureOf};
+use sketch::Contact;
 use sketch::Equation;
 use sketch::Gauge;
 use sketch::Kind;
@@ -8,6 +9,27 @@ use sketch::LineNo;
 use sketch::Measure;
 use sketch::Operand;
 use sketch::PointNo;
+use sketch::Rad;
+
+fn rad_of(o: Operand) -> Rad
+    ensures { λ r. ⌜ r ≡ radIn o ⌝ }
+{
+    if o.bare == 1 {
+        Rad::Point(PointNo(o.number))
+    } else {
+        Rad::Value(o.value)
+    }
+}
+
+fn contact_of(o: Operand) -> Contact
+    ensures { λ r. ⌜ r ≡ contactIn o ⌝ }
+{
+    if o.bare == 1 {
+        Contact::Outside
+    } else {
+        Contact::Inside(o.value)
+    }
+}
 
 // A point or a line at each place where some kind has one.
 pub(crate) fn equation_of(kind: Kind, f: [Operand; 5]) -> Equation
@@ -40,13 +62,13 @@ pub(crate) fn equation_of(kind: Kind, f: [Operand; 5]) -> Equation
         Kind::ArcEnds => Equation::ArcEnds(p, q, s),
         Kind::Radius => Equation::Radius(p, q, c.value),
         Kind::LineCircle => {
-            let rad = c.rad;
+            let rad = rad_of(c);
             Equation::LineCircle(l, q, rad, d.value)
         }
         Kind::CircleCircle => {
-            let first = b.rad;
-            let second = d.rad;
-            let contact = e.contact;
+            let first = rad_of(b);
+            let second = rad_of(d);
+            let contact = contact_of(e);
             Equation::CircleCircle(p, first, s, second, contact)
         }
         Kind::LineArcAt => Equation::LineArcAt(l, q, s),

@@ -2,11 +2,9 @@
 ghost use mathlib.Core.Path.{_≡_};
 ghost use Rattle.sketch.specs.Made as Made;
 ghost use mathlib.Core.List.{_∷_, []};
-ghost use Rattle.phrases.specs.Fields.{byNumber, byValue, byRad, byContact, operandAt, sortsOf, fieldsAt};
-use crate::ContactRead;
+ghost use Rattle.phrases.specs.Fields.{byNumber, byValue, operandAt, sortsOf, fieldsAt};
 use crate::FieldsRead;
 use crate::OperandRead;
-use crate::RadRead;
 use crate::Sorts;
 use crate::fields::axis;
 use crate::fields::contact;
@@ -14,66 +12,54 @@ use crate::fields::number;
 use crate::fields::rad;
 use crate::fields::side;
 use crate::fields::value;
-use sketch::Contact;
 use sketch::Operand;
-use sketch::Rad;
 use sketch::Sort;
 use spelling::Cursor;
 use spelling::FloatRead;
 use spelling::WholeRead;
 
-fn holding(number: usize, value: f64, rad: Rad, contact: Contact, next: Cursor) -> OperandRead
-    ensures { λ r. ⌜ r ≡ record { operand = Made.operand number value rad contact; next = next } ⌝ }
+// A place that is handed on is made anew from its two parts, here and below: moved as a whole it would wait until both are stored.
+pub(crate) fn holding(number: usize, value: f64, bare: usize, next: Cursor) -> OperandRead
+    ensures { λ r. ⌜ r ≡ record { operand = Made.operand number value bare; next = next } ⌝ }
 {
     OperandRead {
         operand: Operand {
             number,
             value,
-            rad,
-            contact,
+            bare,
         },
-        next,
+        next: Cursor {
+            at: next.at,
+            ok: next.ok,
+        },
     }
 }
 
 fn by_number(n: WholeRead) -> OperandRead
     ensures { λ r. ⌜ r ≡ byNumber n ⌝ }
 {
-    holding(n.value, 0.0, Rad::Value(0.0), Contact::Outside, n.next)
+    holding(n.value, 0.0, 0, n.next)
 }
 
 fn by_value(v: FloatRead) -> OperandRead
     ensures { λ r. ⌜ r ≡ byValue v ⌝ }
 {
-    holding(0, v.value, Rad::Value(0.0), Contact::Outside, v.next)
-}
-
-fn by_rad(q: RadRead) -> OperandRead
-    ensures { λ r. ⌜ r ≡ byRad q ⌝ }
-{
-    let rad = q.rad;
-    holding(0, 0.0, rad, Contact::Outside, q.next)
-}
-
-fn by_contact(o: ContactRead) -> OperandRead
-    ensures { λ r. ⌜ r ≡ byContact o ⌝ }
-{
-    let contact = o.contact;
-    holding(0, 0.0, Rad::Value(0.0), contact, o.next)
+    holding(0, v.value, 0, v.next)
 }
 
 // One field, with the comma in front of it.
 fn operand(s: &[u8], sort: Sort, c: Cursor) -> OperandRead
     ensures { λ r. ⌜ r ≡ operandAt (now (s .entry)) sort c ⌝ }
 {
+    let c = Cursor { at: c.at, ok: c.ok };
     match sort {
         Sort::Point => by_number(number(s, c)),
         Sort::Line => by_number(number(s, c)),
         Sort::Value => by_value(value(s, c)),
         Sort::Axis => by_number(axis(s, c)),
         Sort::Side => by_value(side(s, c)),
-        Sort::Radius => by_rad(rad(s, c)),
-        Sort::Contact => by_contact(contact(s, c)),
+        Sort::Radius => rad(s, c),
+        Sort::Contact => contact(s, c),
     }
 }
 
@@ -82,7 +68,10 @@ fn five(a: Operand, b: Operand, d: Operand, e: Operand, f: Operand, next: Cursor
 {
     FieldsRead {
         operands: [a, b, d, e, f],
-        next,
+        next: Cursor {
+            at: next.at,
+            ok: next.ok,
+        },
     }
 }
 
@@ -93,8 +82,7 @@ pub(crate) fn fields(s: &[u8], l: Sorts, c: Cursor) -> FieldsRead
     let none = Operand {
         number: 0,
         value: 0.0,
-        rad: Rad::Value(0.0),
-        contact: Contact::Outside,
+        bare: 0,
     };
     match l {
         Sorts::None => five(none, none, none, none, none, c),

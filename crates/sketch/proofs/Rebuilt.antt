@@ -4,17 +4,27 @@ use mathlib.Core.List.{List}
 use mathlib.Core.Path.{_≡_, refl, sym, ap, _∙_}
 use Rattle.sketch.specs.Fields.{Field, shapeOf, measureShape, ShapesAreWhole}
 use Rattle.sketch.specs.Kinds.{fieldsOf, measuredFields}
-use Rattle.sketch.specs.Made.{equationFrom, measureFrom, Row, rowFields, FieldsAgree}
+use Rattle.sketch.specs.Made.{round, touching, radIn, contactIn, equationFrom, measureFrom, Row, rowFields, FieldsAgree}
+use Rattle.sketch.specs.declared.Contact.{Contact}
 use Rattle.sketch.specs.declared.Equation.{Equation}
 use Rattle.sketch.specs.declared.Gauge.{Gauge}
 use Rattle.sketch.specs.declared.Kind.{Kind}
 use Rattle.sketch.specs.declared.Measure.{Measure}
+use Rattle.sketch.specs.declared.Rad.{Rad}
 
 abbrev fromShape : Kind × List Field → Equation
 fromShape r = equationFrom (r .0) (r .1)
 
 abbrev fromMeasured : Gauge × List Field → Measure
 fromMeasured r = measureFrom (r .0) (r .1)
+
+rad-again : (r : Rad) → radIn (round r) ≡ r
+rad-again (Rad.Point p) = refl
+rad-again (Rad.Value v) = refl
+
+contact-again : (k : Contact) → contactIn (touching k) ≡ k
+contact-again Contact.Outside = refl
+contact-again (Contact.Inside s) = refl
 
 again : (e : Equation) → fromShape (shapeOf e) ≡ e
 again (Equation.Coincident a b) = refl
@@ -30,8 +40,8 @@ again (Equation.Length l v) = refl
 again (Equation.PointLine p l v s) = refl
 again (Equation.ArcEnds c f t) = refl
 again (Equation.Radius c f v) = refl
-again (Equation.LineCircle l c r s) = refl
-again (Equation.CircleCircle c₁ r₁ c₂ r₂ k) = refl
+again (Equation.LineCircle l c r s) = rw (rad-again r)
+again (Equation.CircleCircle c₁ r₁ c₂ r₂ k) = rw (rad-again r₁, rad-again r₂, contact-again k)
 again (Equation.LineArcAt l c p) = refl
 again (Equation.ArcArcAt c₁ c₂ p) = refl
 again (Equation.Midpoint p l) = refl
@@ -67,8 +77,8 @@ kind-agrees Kind.Length m = refl
 kind-agrees Kind.PointLine m = refl
 kind-agrees Kind.ArcEnds m = refl
 kind-agrees Kind.Radius m = refl
-kind-agrees Kind.LineCircle m = refl
-kind-agrees Kind.CircleCircle m = refl
+kind-agrees Kind.LineCircle m = rw (rad-again (m .1 .1 .0))
+kind-agrees Kind.CircleCircle m = rw (rad-again (m .1 .0), rad-again (m .1 .1 .1 .0), contact-again (m .1 .1 .1 .1 .0))
 kind-agrees Kind.LineArcAt m = refl
 kind-agrees Kind.ArcArcAt m = refl
 kind-agrees Kind.Midpoint m = refl

@@ -1,13 +1,14 @@
 -- How an equation or a measure is made of its kind and of what stands in its fields.
+use mathlib.Core.Bool.{cond}
 use mathlib.Core.List.{List, [], _∷_, map}
 use mathlib.Core.Path.{_≡_}
 use Prim.Native.Nat.{ℕ}
+use lib.Dec.{eqb}
 use lib.Ieee.{Float, nan}
 use lib.ListN.{getD}
 use Rattle.floats.specs.Ops.{zero⁺}
 use Rattle.sketch.specs.Blank.{filled}
 use Rattle.sketch.specs.Fields.{Field, point, line, value, size, axis, side, radius, contact, shapeOf, measureShape}
-use Rattle.sketch.specs.Involved.{noPoint}
 use Rattle.sketch.specs.Kinds.{fieldsOf, measuredFields}
 use Rattle.sketch.specs.declared.Contact.{Contact}
 use Rattle.sketch.specs.declared.Equation.{Equation}
@@ -20,27 +21,23 @@ use Rattle.sketch.specs.declared.PointNo.{PointNo}
 use Rattle.sketch.specs.declared.Rad.{Rad}
 use Rattle.sketch.specs.declared.Sort.{Sort}
 
--- what stands in a field; the parts that its sort has not are blank
-abbrev pub operand : ℕ → Float → Rad → Contact → Operand
-operand n v r k = record { number = n; value = v; rad = r; contact = k }
-
-abbrev pub noRad : Rad
-noRad = Rad.Value zero⁺
-
-abbrev pub blankOperand : Operand
-blankOperand = operand 0 zero⁺ noRad Contact.Outside
+-- what stands in a field; a radius by a point and a contact outside are bare
+abbrev pub operand : ℕ → Float → ℕ → Operand
+operand n v b = record { number = n; value = v; bare = b }
 
 abbrev pub numbered : ℕ → Operand
-numbered n = operand n zero⁺ noRad Contact.Outside
+numbered n = operand n zero⁺ 0
 
 abbrev pub valued : Float → Operand
-valued v = operand 0 v noRad Contact.Outside
+valued v = operand 0 v 0
 
 abbrev pub round : Rad → Operand
-round r = operand 0 zero⁺ r Contact.Outside
+round (Rad.Point p) = operand (p .0) zero⁺ 1
+round (Rad.Value v) = operand 0 v 0
 
 abbrev pub touching : Contact → Operand
-touching k = operand 0 zero⁺ noRad k
+touching Contact.Outside = operand 0 zero⁺ 1
+touching (Contact.Inside s) = operand 0 s 0
 
 abbrev pub operandOf : Field → Operand
 operandOf (point p) = numbered (p .0)
@@ -54,17 +51,23 @@ operandOf (contact k) = touching k
 
 -- what an array gives past its end
 abbrev pub absent : Operand
-absent = operand 0 nan (Rad.Point noPoint) Contact.Outside
+absent = operand 0 nan 0
 
 -- five places, which are enough for every kind
 abbrev pub five : List Operand → List Operand
-five l = filled 5 blankOperand l
+five l = filled 5 (numbered 0) l
 
 abbrev pub pointNo : ℕ → PointNo
 pointNo n = record { 0 = n }
 
 abbrev pub lineNo : ℕ → LineNo
 lineNo n = record { 0 = n }
+
+abbrev pub radIn : Operand → Rad
+radIn o = cond (eqb (o .bare) 1) (Rad.Point (pointNo (o .number))) (Rad.Value (o .value))
+
+abbrev pub contactIn : Operand → Contact
+contactIn o = cond (eqb (o .bare) 1) Contact.Outside (Contact.Inside (o .value))
 
 abbrev aPoint : List Operand → ℕ → PointNo
 aPoint f i = pointNo (getD f i absent .number)
@@ -79,10 +82,10 @@ abbrev aNumber : List Operand → ℕ → Float
 aNumber f i = getD f i absent .value
 
 abbrev aRadius : List Operand → ℕ → Rad
-aRadius f i = getD f i absent .rad
+aRadius f i = radIn (getD f i absent)
 
 abbrev aContact : List Operand → ℕ → Contact
-aContact f i = getD f i absent .contact
+aContact f i = contactIn (getD f i absent)
 
 -- the Rust's constructor on the fields in their order
 abbrev pub equationOf : Kind → List Operand → Equation

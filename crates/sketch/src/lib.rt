@@ -130,13 +130,13 @@ pub enum Gauge {
     Radius,
 }
 
-// What stands in a field: a point's, a line's or an axis's number, a value or a side, a radius, or a contact. The parts that
-// are not of the field's sort are blank.
+// What stands in a field: a point's, a line's or an axis's number, a value or a side, a radius or a contact. A radius by a point
+// and a contact outside are bare, which is 1: they have no value. It is a number since a bool leaves a gap, and a struct with a gap
+// is slow to move.
 pub struct Operand {
     pub number: usize,
     pub value: f64,
-    pub rad: Rad,
-    pub contact: Contact,
+    pub bare: usize,
 }
 
 // An array in a build holds structs, so an equation and a measure each stand in one of their own.
