@@ -39,8 +39,8 @@ abbrev pub contentsText : (l : List Sort) → Contents l → List ℕ
 contentsText [] v = []
 contentsText (f ∷ l) v = ascii "," ++ contentText f (v .0) ++ contentsText l (v .1)
 
--- The kind in lower case, then its fields. The names are one table, which the reader and this text cite: it stands with the kinds
--- themselves, below both (crates/phrases/specs/Kinds.antt).
+-- The kind in lower case, then its fields. The names are one table, which the reader and this text cite: it stands below both
+-- (crates/phrases/specs/Kinds.antt).
 abbrev pub equationText : EquationItem → List ℕ
 equationText e = nameOf (e .kind) ++ contentsText (fieldsOf (e .kind)) (e .contents)
 
