@@ -1,12 +1,15 @@
 -- Each field is read exactly as it is written, with the comma in front of it. Assumes nothing.
 use Prim.Native.Nat.{ℕ}
 use mathlib.Core.Bool.{Bool, true, false, cond}
-use mathlib.Core.List.{List, [], _∷_, _++_}
+use mathlib.Core.List.{List, [], _∷_, _++_, map}
 use mathlib.Core.Path.{_≡_, refl, sym, ap, ap₂, _∙_}
 use Rattle.loops.specs.Turns.{fold}
-use Rattle.phrases.specs.Fields.{numberAt, pointNo, lineNo, valueAt, axisAt, sideAt, radAt, contactAt}
-use Rattle.phrases.specs.declared.ContactRead.{ContactRead}
+use Rattle.phrases.specs.Fields.{numberAt, valueAt, axisAt, sideAt, radAt, contactAt, operandAt, operandsAt, pastFields}
+use Rattle.phrases.specs.declared.OperandRead.{OperandRead}
+use Rattle.sketch.specs.Made.{operandOf, numbered, valued, round, touching, fieldOf, rowFields}
 use Rattle.sketch.specs.declared.Contact.{Contact}
+use Rattle.sketch.specs.declared.Operand.{Operand}
+use Rattle.sketch.specs.declared.Sort.{Sort}
 use Rattle.spelling.proofs.FloatForm.{float-reads}
 use Rattle.spelling.proofs.Forms.{Reads, parted, anything, before-more, word-reads, then-reads, and-reads, as-reads, pick, pickText, pick-reads, after-word}
 use Rattle.spelling.proofs.WholeForm.{whole-reads}
@@ -15,8 +18,8 @@ use Rattle.spelling.specs.Letters.{ascii}
 use Rattle.spelling.specs.Places.{eatOf}
 use Rattle.spelling.specs.Printed.{wholeText, floatText}
 use Rattle.spelling.specs.declared.Cursor.{Cursor}
-use Rattle.grammar.specs.Job.{Whole, Pattern, Axis, axisX, axisY, Sign, plus, minus, Radius, byPoint, plain, Touch, outside, inside, Field, point, line, value, axis, side, radius, contact, RadiusFits, Content, ContentFits, Contents, ContentsFit}
-use Rattle.grammar.specs.Meaning.{axisOf, signOf, radOf, contactOf, Meant, meantOf, Means, meansOf}
+use Rattle.grammar.specs.Job.{Whole, Pattern, Axis, axisX, axisY, Sign, plus, minus, Radius, byPoint, plain, Touch, outside, inside, RadiusFits, Content, ContentFits, Contents, ContentsFit}
+use Rattle.grammar.specs.Meaning.{axisOf, signOf, radOf, contactOf, meantOf, meansOf}
 use Rattle.grammar.specs.Printed.{axisText, signText, radiusText, touchText, contentText, contentsText}
 
 always : (t : List ℕ) → parted t ≡ true → anything t ≡ true
@@ -49,9 +52,9 @@ axis-found : (a : Axis) (t : List ℕ) → parted t ≡ true → pickText axisWo
 axis-found axisX t h = refl
 axis-found axisY t h = refl
 
-axis-at : (s : List ℕ) (c : Cursor) → axisAt s c ≡ record { axis = axisOf (readAxis s c); next = fold (eatOf s) c (axisWord (readAxis s c)) }
+axis-at : (s : List ℕ) (c : Cursor) → axisAt s c ≡ record { value = axisOf (readAxis s c); next = fold (eatOf s) c (axisWord (readAxis s c)) }
 unfolding axisAt pick
-axis-at s c = cond-over (λ a. record { axis = axisOf a; next = fold (eatOf s) c (axisWord a) }) (fold (eatOf s) c (axisWord axisX) .ok) axisX axisY
+axis-at s c = cond-over (λ a. record { value = axisOf a; next = fold (eatOf s) c (axisWord a) }) (fold (eatOf s) c (axisWord axisX) .ok) axisX axisY
 
 abbrev signWord : Sign → List ℕ
 signWord k = ascii "," ++ signText k
@@ -78,13 +81,13 @@ contact-found outside t h = refl
 contact-found (inside plus) t h = refl
 contact-found (inside minus) t h = refl
 
-contact-at : (s : List ℕ) (c : Cursor) → contactAt s c ≡ record { contact = contactOf (readContact s c); next = fold (eatOf s) c (touchWord (readContact s c)) }
+contact-at : (s : List ℕ) (c : Cursor) → contactAt s c ≡ record { operand = touching (contactOf (readContact s c)); next = fold (eatOf s) c (touchWord (readContact s c)) }
 unfolding contactAt pick
 contact-at s c =
-    let f : Touch → ContactRead = λ o. record { contact = contactOf o; next = fold (eatOf s) c (touchWord o) } in
+    let f : Touch → OperandRead = λ o. record { operand = touching (contactOf o); next = fold (eatOf s) c (touchWord o) } in
     let o = fold (eatOf s) c (touchWord outside) .ok in
     let p = fold (eatOf s) c (signWord plus) .ok in
-    ap (λ r. cond {A = ContactRead} o (f outside) (record { contact = Contact.Inside (r .value); next = r .next })) (side-at s c)
+    ap (λ r. cond {A = OperandRead} o (f outside) (record { operand = touching (Contact.Inside (r .value)); next = r .next })) (side-at s c)
     ∙ cond-over f o outside (inside (cond p plus minus)) ∙ ap (λ r. f (cond o outside r)) (sym (cond-over inside p plus minus))
 
 -- A radius: a word, and then a point or a float.
@@ -131,10 +134,10 @@ abbrev readRadius : List ℕ → Cursor → Radius
 readRadius s c = let k = pick byWord s c (number ∷ []) float in radiusOf k (readBy k s (fold (eatOf s) c (byWord k)))
 
 rad-at : (s : List ℕ) (c : Cursor) → let k = pick byWord s c (number ∷ []) float in
-    radAt s c ≡ record { rad = radOf (readRadius s c); next = nextBy k s (fold (eatOf s) c (byWord k)) }
+    radAt s c ≡ record { operand = round (radOf (readRadius s c)); next = nextBy k s (fold (eatOf s) c (byWord k)) }
 unfolding radAt pick valueAt
 rad-at s c =
-    cond-over (λ k. record { rad = radOf (radiusOf k (readBy k s (fold (eatOf s) c (byWord k)))); next = nextBy k s (fold (eatOf s) c (byWord k)) })
+    cond-over (λ k. record { operand = round (radOf (radiusOf k (readBy k s (fold (eatOf s) c (byWord k))))); next = nextBy k s (fold (eatOf s) c (byWord k)) })
     (fold (eatOf s) c (byWord number) .ok) number float
 
 radius-reads : Reads (λ r. ascii "," ++ radiusText r) RadiusFits readRadius (λ s c. radAt s c .next) parted
@@ -163,42 +166,24 @@ radius-reads =
     fit-of float b h = h .1
 
 -- Every field, and what the reader gives for it.
-abbrev pub readField : (f : Field) → List ℕ → Cursor → Content f
-readField point s c = numberAt s c .value
-readField line s c = numberAt s c .value
-readField value s c = readValue s c
-readField axis s c = readAxis s c
-readField side s c = readSide s c
-readField radius s c = readRadius s c
-readField contact s c = readContact s c
+abbrev pub readField : (f : Sort) → List ℕ → Cursor → Content f
+readField Sort.Point s c = numberAt s c .value
+readField Sort.Line s c = numberAt s c .value
+readField Sort.Value s c = readValue s c
+readField Sort.Axis s c = readAxis s c
+readField Sort.Side s c = readSide s c
+readField Sort.Radius s c = readRadius s c
+readField Sort.Contact s c = readContact s c
 
-abbrev pub nextField : Field → List ℕ → Cursor → Cursor
-nextField point s c = numberAt s c .next
-nextField line s c = numberAt s c .next
-nextField value s c = valueAt s c .next
-nextField axis s c = axisAt s c .next
-nextField side s c = sideAt s c .next
-nextField radius s c = radAt s c .next
-nextField contact s c = contactAt s c .next
-
-abbrev pub givenField : (f : Field) → List ℕ → Cursor → Meant f
-givenField point s c = pointNo (numberAt s c .value)
-givenField line s c = lineNo (numberAt s c .value)
-givenField value s c = valueAt s c .value
-givenField axis s c = axisAt s c .axis
-givenField side s c = sideAt s c .value
-givenField radius s c = radAt s c .rad
-givenField contact s c = contactAt s c .contact
-
-given-is : (f : Field) (s : List ℕ) (c : Cursor) → givenField f s c ≡ meantOf f (readField f s c)
-unfolding valueAt
-given-is point s c = refl
-given-is line s c = refl
-given-is value s c = refl
-given-is axis s c = ap (λ r. r .axis) (axis-at s c)
-given-is side s c = ap (λ r. r .value) (side-at s c)
-given-is radius s c = ap (λ r. r .rad) (rad-at s c)
-given-is contact s c = ap (λ r. r .contact) (contact-at s c)
+operand-is : (f : Sort) (s : List ℕ) (c : Cursor) → operandAt s f c .operand ≡ operandOf (fieldOf f (meantOf f (readField f s c)))
+unfolding operandAt valueAt
+operand-is Sort.Point s c = refl
+operand-is Sort.Line s c = refl
+operand-is Sort.Value s c = refl
+operand-is Sort.Axis s c = ap (λ r. numbered (r .value)) (axis-at s c)
+operand-is Sort.Side s c = ap (λ r. valued (r .value)) (side-at s c)
+operand-is Sort.Radius s c = ap (λ r. r .operand) (rad-at s c)
+operand-is Sort.Contact s c = ap (λ r. r .operand) (contact-at s c)
 
 -- a reading of one of a few words
 word-field : {K : Type 0} (word : K → List ℕ) (l : List K) (d : K) (next : List ℕ → Cursor → Cursor)
@@ -208,38 +193,31 @@ word-field : {K : Type 0} (word : K → List ℕ) (l : List K) (d : K) (next : L
 word-field word l d next e found =
     as-reads (λ k. k) (λ k. k) (λ b. refl) (λ b. refl) (λ a. refl) (λ b h. h) (λ a h. h) (λ s c. refl) e (pick-reads word l d parted found)
 
-field-reads : (f : Field) → Reads (λ v. ascii "," ++ contentText f v) (ContentFits f) (readField f) (nextField f) parted
-field-reads point = number-reads
-field-reads line = number-reads
-field-reads value = before-more parted always value-reads
-field-reads axis = word-field axisWord (axisX ∷ []) axisY _ (λ s c. ap (λ r. r .next) (axis-at s c)) axis-found
-field-reads side = word-field signWord (plus ∷ []) minus _ (λ s c. ap (λ r. r .next) (side-at s c)) side-found
-field-reads radius = radius-reads
-field-reads contact = word-field touchWord (outside ∷ inside plus ∷ []) (inside minus) _ (λ s c. ap (λ r. r .next) (contact-at s c)) contact-found
+field-reads : (f : Sort) → Reads (λ v. ascii "," ++ contentText f v) (ContentFits f) (readField f) (λ s c. operandAt s f c .next) parted
+unfolding operandAt
+field-reads Sort.Point = number-reads
+field-reads Sort.Line = number-reads
+field-reads Sort.Value = before-more parted always value-reads
+field-reads Sort.Axis = word-field axisWord (axisX ∷ []) axisY _ (λ s c. ap (λ r. r .next) (axis-at s c)) axis-found
+field-reads Sort.Side = word-field signWord (plus ∷ []) minus _ (λ s c. ap (λ r. r .next) (side-at s c)) side-found
+field-reads Sort.Radius = radius-reads
+field-reads Sort.Contact = word-field touchWord (outside ∷ inside plus ∷ []) (inside minus) _ (λ s c. ap (λ r. r .next) (contact-at s c)) contact-found
 
 -- Fields one after another.
-abbrev pub readFields : (l : List Field) → List ℕ → Cursor → Contents l
+abbrev pub readFields : (l : List Sort) → List ℕ → Cursor → Contents l
 readFields [] s c = tt
-readFields (f ∷ l) s c = (readField f s c, readFields l s (nextField f s c))
+readFields (f ∷ l) s c = (readField f s c, readFields l s (operandAt s f c .next))
 
-abbrev pub nextFields : List Field → List ℕ → Cursor → Cursor
-nextFields [] s c = c
-nextFields (f ∷ l) s c = nextFields l s (nextField f s c)
-
-abbrev pub givenFields : (l : List Field) → List ℕ → Cursor → Means l
-givenFields [] s c = tt
-givenFields (f ∷ l) s c = (givenField f s c, givenFields l s (nextField f s c))
-
-pub givens-are : (l : List Field) (s : List ℕ) (c : Cursor) → givenFields l s c ≡ meansOf l (readFields l s c)
-givens-are [] s c = refl
-givens-are (f ∷ l) s c = ap₂ {C = Means (f ∷ l)} (λ m r. (m, r)) (given-is f s c) (givens-are l s (nextField f s c))
+pub operands-are : (l : List Sort) (s : List ℕ) (c : Cursor) → operandsAt s l c ≡ map operandOf (rowFields l (meansOf l (readFields l s c)))
+operands-are [] s c = refl
+operands-are (f ∷ l) s c = ap₂ {C = List Operand} (λ o r. o ∷ r) (operand-is f s c) (operands-are l s (operandAt s f c .next))
 
 -- what comes after a number or a name is parted from it, by a field's comma or by what comes after the fields
-pub fields-part : (l : List Field) (v : Contents l) (t : List ℕ) → parted t ≡ true → parted (contentsText l v ++ t) ≡ true
+pub fields-part : (l : List Sort) (v : Contents l) (t : List ℕ) → parted t ≡ true → parted (contentsText l v ++ t) ≡ true
 fields-part [] v t h = h
 fields-part (f ∷ l) v t h = refl
 
-pub fields-reads : (l : List Field) → Reads (contentsText l) (ContentsFit l) (readFields l) (nextFields l) parted
+pub fields-reads : (l : List Sort) → Reads (contentsText l) (ContentsFit l) (readFields l) (λ s c. pastFields s l c) parted
 unfolding fold
 fields-reads [] = before-more parted always (word-reads [])
 fields-reads (f ∷ l) = and-reads (field-reads f) (fields-reads l) (fields-part l)

@@ -11,15 +11,19 @@ use Rattle.spelling.proofs.Steps.{never, starts}
 use Rattle.spelling.specs.Places.{eatOf}
 use Rattle.spelling.specs.declared.Cursor.{Cursor}
 use Rattle.phrases.specs.Equations as E
+use Rattle.phrases.specs.Fields.{pastFields}
 use Rattle.phrases.specs.Kinds.{nameOf, orNamed, trying, otherKinds, kindAt}
 use Rattle.phrases.specs.Measures as M
-use Rattle.phrases.specs.declared.Kind.{Kind}
 use Rattle.phrases.specs.declared.KindRead.{KindRead}
 use Rattle.phrases.specs.declared.MeasureRead.{MeasureRead}
-use Rattle.grammar.specs.Job.{fieldsOf, Gauge, ofDistance, ofAxisDistance, ofLength, ofPointLine, ofRadius, kindOf, valueless, EquationItem, MeasureItem, EquationFits, MeasureFits}
-use Rattle.grammar.specs.Meaning.{equationFrom, measureFrom, activeOf, measuredOf}
+use Rattle.sketch.specs.Kinds.{fieldsOf, kindOf, measuredFields}
+use Rattle.sketch.specs.Made.{equationOf, measureOf, five}
+use Rattle.sketch.specs.declared.Gauge.{Gauge}
+use Rattle.sketch.specs.declared.Kind.{Kind}
+use Rattle.grammar.specs.Job.{EquationItem, MeasureItem, EquationFits, MeasureFits}
+use Rattle.grammar.specs.Meaning.{activeOf, measuredOf}
 use Rattle.grammar.specs.Printed.{equationText, measureText}
-use Rattle.grammar.proofs.FieldForms.{readFields, nextFields, givenFields, givens-are, fields-part, fields-reads, cond-over}
+use Rattle.grammar.proofs.FieldForms.{readFields, operands-are, fields-part, fields-reads, cond-over}
 
 -- all but the last of a row of kinds, and the last one
 abbrev front : Kind → List Kind → List Kind
@@ -92,43 +96,17 @@ kind-reads =
     (λ s c. ap (λ r. r .kind) (trying-is s c Kind.Coincident otherKinds)) (λ s c. ap (λ r. r .next) (trying-is s c Kind.Coincident otherKinds))
     (pick-reads nameOf kinds Kind.Symmetric parted found)
 
--- The reader's fields of each kind are those of the table.
-fields-at : (k : Kind) (s : List ℕ) (c : Cursor)
-    → E.fieldsAt s k c ≡ record { equation = equationFrom k (givenFields (fieldsOf k) s c); next = nextFields (fieldsOf k) s c }
-unfolding E.coincidentAt E.levelAt E.parallelAt E.perpendicularAt E.collinearAt E.equalAt E.distanceAt E.axisDistanceAt E.lengthAt E.pointLineAt E.arcEndsAt E.radiusAt E.lineCircleAt E.circleCircleAt E.lineArcAtAt E.arcArcAtAt E.midpointAt E.arcMidpointAt E.symmetricAt E.equalRadiusAt
-fields-at Kind.Coincident s c = refl
-fields-at Kind.Level s c = refl
-fields-at Kind.Parallel s c = refl
-fields-at Kind.Perpendicular s c = refl
-fields-at Kind.Collinear s c = refl
-fields-at Kind.Equal s c = refl
-fields-at Kind.Held s c = refl
-fields-at Kind.Distance s c = refl
-fields-at Kind.AxisDistance s c = refl
-fields-at Kind.Length s c = refl
-fields-at Kind.PointLine s c = refl
-fields-at Kind.ArcEnds s c = refl
-fields-at Kind.Radius s c = refl
-fields-at Kind.LineCircle s c = refl
-fields-at Kind.CircleCircle s c = refl
-fields-at Kind.LineArcAt s c = refl
-fields-at Kind.ArcArcAt s c = refl
-fields-at Kind.Midpoint s c = refl
-fields-at Kind.ArcMidpoint s c = refl
-fields-at Kind.Symmetric s c = refl
-fields-at Kind.EqualRadius s c = refl
-
 abbrev pub readEquation : List ℕ → Cursor → EquationItem
 readEquation s c = let k = kindAt s c in record { kind = k .kind; contents = readFields (fieldsOf (k .kind)) s (k .next) }
 
 nextEquation : List ℕ → Cursor → Cursor
-nextEquation s c = let k = kindAt s c in nextFields (fieldsOf (k .kind)) s (k .next)
+nextEquation s c = let k = kindAt s c in pastFields s (fieldsOf (k .kind)) (k .next)
 
 equation-at : (s : List ℕ) (c : Cursor) → E.equationAt s c ≡ record { equation = activeOf (readEquation s c) .equation; next = nextEquation s c }
 unfolding E.equationAt nextEquation
 equation-at s c =
     let k = kindAt s c in
-    fields-at (k .kind) s (k .next) ∙ ap (λ m. record { equation = equationFrom (k .kind) m; next = nextFields (fieldsOf (k .kind)) s (k .next) }) (givens-are (fieldsOf (k .kind)) s (k .next))
+    ap (λ f. record { equation = equationOf (k .kind) (five f); next = pastFields s (fieldsOf (k .kind)) (k .next) }) (operands-are (fieldsOf (k .kind)) s (k .next))
 
 pub equation-is : (s : List ℕ) (c : Cursor) → E.equationAt s c .equation ≡ activeOf (readEquation s c) .equation
 equation-is s c = ap (λ r. r .equation) (equation-at s c)
@@ -145,63 +123,46 @@ abbrev gaugeName : Gauge → List ℕ
 gaugeName g = nameOf (kindOf g)
 
 abbrev gauges : List Gauge
-gauges = ofDistance ∷ ofAxisDistance ∷ ofLength ∷ ofPointLine ∷ []
+gauges = Gauge.Distance ∷ Gauge.AxisDistance ∷ Gauge.Length ∷ Gauge.PointLine ∷ []
 
-abbrev gaugeFields : Gauge → List ℕ → Cursor → MeasureRead
-gaugeFields ofDistance s c = M.distanceAt s c
-gaugeFields ofAxisDistance s c = M.axisDistanceAt s c
-gaugeFields ofLength s c = M.lengthAt s c
-gaugeFields ofPointLine s c = M.pointLineAt s c
-gaugeFields ofRadius s c = M.radiusAt s c
-
-gauge-fields : (g : Gauge) (s : List ℕ) (c : Cursor) → let l = valueless (fieldsOf (kindOf g)) in
-    gaugeFields g s c ≡ record { measure = measureFrom g (givenFields l s c); next = nextFields l s c }
-unfolding M.distanceAt M.axisDistanceAt M.lengthAt M.pointLineAt M.radiusAt
-gauge-fields ofDistance s c = refl
-gauge-fields ofAxisDistance s c = refl
-gauge-fields ofLength s c = refl
-gauge-fields ofPointLine s c = refl
-gauge-fields ofRadius s c = refl
-
-gauge-found : (g : Gauge) (t : List ℕ) → parted t ≡ true → pickText gaugeName gauges ofRadius (gaugeName g ++ t) ≡ g
-gauge-found ofDistance t h = refl
-gauge-found ofAxisDistance t h = refl
-gauge-found ofLength t h = refl
-gauge-found ofPointLine t h = refl
-gauge-found ofRadius t h = refl
+gauge-found : (g : Gauge) (t : List ℕ) → parted t ≡ true → pickText gaugeName gauges Gauge.Radius (gaugeName g ++ t) ≡ g
+gauge-found Gauge.Distance t h = refl
+gauge-found Gauge.AxisDistance t h = refl
+gauge-found Gauge.Length t h = refl
+gauge-found Gauge.PointLine t h = refl
+gauge-found Gauge.Radius t h = refl
 
 module _ (s : List ℕ) (c : Cursor) where
   abbrev gauged : Gauge → MeasureRead
-  gauged g = gaugeFields g s (fold (eatOf s) c (gaugeName g))
+  gauged g = M.gaugedAt s g (fold (eatOf s) c (gaugeName g))
 
   named-is : (g : Gauge) (l : List Gauge) (d : Gauge) (other : MeasureRead) → other ≡ gauged (pick gaugeName s c l d)
-      → M.named s c (kindOf g) (gaugeFields g s) other ≡ gauged (pick gaugeName s c (g ∷ l) d)
+      → M.named s c g other ≡ gauged (pick gaugeName s c (g ∷ l) d)
   unfolding M.named pick
   named-is g l d other e =
       let b = fold (eatOf s) c (gaugeName g) .ok in
       ap (λ r. cond b (gauged g) r) e ∙ cond-over gauged b g (pick gaugeName s c l d)
 
-  measure-gauged : M.measureAt s c ≡ gauged (pick gaugeName s c gauges ofRadius)
+  measure-gauged : M.measureAt s c ≡ gauged (pick gaugeName s c gauges Gauge.Radius)
   unfolding M.measureAt pick
   measure-gauged =
-      named-is ofDistance (ofAxisDistance ∷ ofLength ∷ ofPointLine ∷ []) ofRadius _
-      (named-is ofAxisDistance (ofLength ∷ ofPointLine ∷ []) ofRadius _ (named-is ofLength (ofPointLine ∷ []) ofRadius _ (named-is ofPointLine [] ofRadius _ refl)))
+      named-is Gauge.Distance (Gauge.AxisDistance ∷ Gauge.Length ∷ Gauge.PointLine ∷ []) Gauge.Radius _
+      (named-is Gauge.AxisDistance (Gauge.Length ∷ Gauge.PointLine ∷ []) Gauge.Radius _ (named-is Gauge.Length (Gauge.PointLine ∷ []) Gauge.Radius _ (named-is Gauge.PointLine [] Gauge.Radius _ refl)))
 
 abbrev pub readMeasure : List ℕ → Cursor → MeasureItem
 readMeasure s c =
-    let g = pick gaugeName s c gauges ofRadius in
-    record { gauge = g; contents = readFields (valueless (fieldsOf (kindOf g))) s (fold (eatOf s) c (gaugeName g)) }
+    let g = pick gaugeName s c gauges Gauge.Radius in
+    record { gauge = g; contents = readFields (measuredFields g) s (fold (eatOf s) c (gaugeName g)) }
 
 nextMeasure : List ℕ → Cursor → Cursor
-nextMeasure s c = let g = pick gaugeName s c gauges ofRadius in nextFields (valueless (fieldsOf (kindOf g))) s (fold (eatOf s) c (gaugeName g))
+nextMeasure s c = let g = pick gaugeName s c gauges Gauge.Radius in pastFields s (measuredFields g) (fold (eatOf s) c (gaugeName g))
 
 measure-at : (s : List ℕ) (c : Cursor) → M.measureAt s c ≡ record { measure = measuredOf (readMeasure s c) .measure; next = nextMeasure s c }
-unfolding nextMeasure
+unfolding M.gaugedAt nextMeasure
 measure-at s c =
-    let g = pick gaugeName s c gauges ofRadius in
+    let g = pick gaugeName s c gauges Gauge.Radius in
     let d = fold (eatOf s) c (gaugeName g) in
-    let l = valueless (fieldsOf (kindOf g)) in
-    measure-gauged s c ∙ gauge-fields g s d ∙ ap (λ m. record { measure = measureFrom g m; next = nextFields l s d }) (givens-are l s d)
+    measure-gauged s c ∙ ap (λ f. record { measure = measureOf g (five f); next = pastFields s (measuredFields g) d }) (operands-are (measuredFields g) s d)
 
 pub measure-is : (s : List ℕ) (c : Cursor) → M.measureAt s c .measure ≡ measuredOf (readMeasure s c) .measure
 measure-is s c = ap (λ r. r .measure) (measure-at s c)
@@ -211,4 +172,4 @@ unfolding nextMeasure
 measure-reads =
     as-reads (λ p. record { gauge = p .0; contents = p .1 }) (λ m. (m .gauge, m .contents)) (λ b. refl) (λ b. refl) (λ a. refl) (λ b h. (tt, h)) (λ a h. h .1)
     (λ s c. refl) (λ s c. ap (λ r. r .next) (measure-at s c))
-    (then-reads (pick-reads gaugeName gauges ofRadius parted gauge-found) (λ g. fields-reads (valueless (fieldsOf (kindOf g)))) (λ g. fields-part (valueless (fieldsOf (kindOf g)))))
+    (then-reads (pick-reads gaugeName gauges Gauge.Radius parted gauge-found) (λ g. fields-reads (measuredFields g)) (λ g. fields-part (measuredFields g)))

@@ -3,7 +3,10 @@
 use mathlib.Core.List.{List, [], _∷_}
 use Prim.Native.Nat.{ℕ, _<_}
 use lib.ListN.{length}
-use Rattle.phrases.specs.declared.Kind.{Kind}
+use Rattle.sketch.specs.Kinds.{fieldsOf, measuredFields}
+use Rattle.sketch.specs.declared.Gauge.{Gauge}
+use Rattle.sketch.specs.declared.Kind.{Kind}
+use Rattle.sketch.specs.declared.Sort.{Sort}
 
 -- a whole number has at most five digits, and a float has 64 bits
 abbrev pub Whole : ℕ → Type 0
@@ -31,90 +34,38 @@ pub data Touch : Type 0 where
   outside : Touch
   inside : Sign → Touch
 
--- The fields of equations and measures.
-pub data Field : Type 0 where
-  point line value axis side radius contact : Field
-
-abbrev pub Content : Field → Type 0
-Content point = ℕ
-Content line = ℕ
-Content value = ℕ
-Content axis = Axis
-Content side = Sign
-Content radius = Radius
-Content contact = Touch
+-- What a field of each sort is written as.
+abbrev pub Content : Sort → Type 0
+Content Sort.Point = ℕ
+Content Sort.Line = ℕ
+Content Sort.Value = ℕ
+Content Sort.Axis = Axis
+Content Sort.Side = Sign
+Content Sort.Radius = Radius
+Content Sort.Contact = Touch
 
 abbrev pub RadiusFits : Radius → Type 0
 RadiusFits (byPoint n) = Whole n
 RadiusFits (plain b) = Pattern b
 
-abbrev pub ContentFits : (f : Field) → Content f → Type 0
-ContentFits point n = Whole n
-ContentFits line n = Whole n
-ContentFits value b = Pattern b
-ContentFits axis a = Unit {0}
-ContentFits side k = Unit {0}
-ContentFits radius r = RadiusFits r
-ContentFits contact o = Unit {0}
+abbrev pub ContentFits : (f : Sort) → Content f → Type 0
+ContentFits Sort.Point n = Whole n
+ContentFits Sort.Line n = Whole n
+ContentFits Sort.Value b = Pattern b
+ContentFits Sort.Axis a = Unit {0}
+ContentFits Sort.Side k = Unit {0}
+ContentFits Sort.Radius r = RadiusFits r
+ContentFits Sort.Contact o = Unit {0}
 
-abbrev pub Contents : List Field → Type 0
+abbrev pub Contents : List Sort → Type 0
 Contents [] = Unit {0}
 Contents (f ∷ l) = Content f × Contents l
 
-abbrev pub ContentsFit : (l : List Field) → Contents l → Type 0
+abbrev pub ContentsFit : (l : List Sort) → Contents l → Type 0
 ContentsFit [] v = Unit {0}
 ContentsFit (f ∷ l) v = ContentFits f (v .0) × ContentsFit l (v .1)
 
--- The fields of each kind, in the Rust's order (equations.rs, `Eq`).
-abbrev pub fieldsOf : Kind → List Field
-fieldsOf Kind.Coincident = point ∷ point ∷ []
-fieldsOf Kind.Level = point ∷ point ∷ axis ∷ []
-fieldsOf Kind.Parallel = line ∷ line ∷ []
-fieldsOf Kind.Perpendicular = line ∷ line ∷ []
-fieldsOf Kind.Collinear = line ∷ line ∷ []
-fieldsOf Kind.Equal = line ∷ line ∷ []
-fieldsOf Kind.Held = []
-fieldsOf Kind.Distance = point ∷ point ∷ value ∷ []
-fieldsOf Kind.AxisDistance = point ∷ point ∷ axis ∷ value ∷ side ∷ []
-fieldsOf Kind.Length = line ∷ value ∷ []
-fieldsOf Kind.PointLine = point ∷ line ∷ value ∷ side ∷ []
-fieldsOf Kind.ArcEnds = point ∷ point ∷ point ∷ []
-fieldsOf Kind.Radius = point ∷ point ∷ value ∷ []
-fieldsOf Kind.LineCircle = line ∷ point ∷ radius ∷ side ∷ []
-fieldsOf Kind.CircleCircle = point ∷ radius ∷ point ∷ radius ∷ contact ∷ []
-fieldsOf Kind.LineArcAt = line ∷ point ∷ point ∷ []
-fieldsOf Kind.ArcArcAt = point ∷ point ∷ point ∷ []
-fieldsOf Kind.Midpoint = point ∷ line ∷ []
-fieldsOf Kind.ArcMidpoint = point ∷ point ∷ point ∷ point ∷ []
-fieldsOf Kind.Symmetric = point ∷ point ∷ line ∷ []
-fieldsOf Kind.EqualRadius = point ∷ point ∷ point ∷ point ∷ []
-
--- the kinds that can be measured
-pub data Gauge : Type 0 where
-  ofDistance ofAxisDistance ofLength ofPointLine ofRadius : Gauge
-
-abbrev pub kindOf : Gauge → Kind
-kindOf ofDistance = Kind.Distance
-kindOf ofAxisDistance = Kind.AxisDistance
-kindOf ofLength = Kind.Length
-kindOf ofPointLine = Kind.PointLine
-kindOf ofRadius = Kind.Radius
-
--- measures omit the value
-abbrev pub omitted : Field → List Field → List Field
-omitted point l = point ∷ l
-omitted line l = line ∷ l
-omitted value l = l
-omitted axis l = axis ∷ l
-omitted side l = side ∷ l
-omitted radius l = radius ∷ l
-omitted contact l = contact ∷ l
-
-abbrev pub valueless : List Field → List Field
-valueless [] = []
-valueless (f ∷ l) = omitted f (valueless l)
-
--- What the lines of the items hold.
+-- What the lines of the items hold. The fields of each kind, and of each measure, are those of the one table (crates/sketch/specs/Kinds.antt).
 pub record Place : Type 0 where
   pub x : ℕ
   pub y : ℕ
@@ -137,7 +88,7 @@ pub record EquationItem : Type 0 where
 
 pub record MeasureItem : Type 0 where
   pub gauge : Gauge
-  pub contents : Contents (valueless (fieldsOf (kindOf gauge)))
+  pub contents : Contents (measuredFields gauge)
 
 pub record Job : Type 0 where
   pub centre : Place
@@ -166,7 +117,7 @@ abbrev pub EquationFits : EquationItem → Type 0
 EquationFits e = ContentsFit (fieldsOf (e .kind)) (e .contents)
 
 abbrev pub MeasureFits : MeasureItem → Type 0
-MeasureFits m = ContentsFit (valueless (fieldsOf (kindOf (m .gauge)))) (m .contents)
+MeasureFits m = ContentsFit (measuredFields (m .gauge)) (m .contents)
 
 -- the four counts
 pub record Counts : Type 0 where

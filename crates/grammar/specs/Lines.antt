@@ -5,17 +5,19 @@ use Prim.Native.Nat.{ℕ}
 use Prim.Native.String.{String}
 use lib.Ieee.{neg}
 use Rattle.floats.specs.Ops.{one, two}
-use Rattle.phrases.specs.Fields.{pointNo, lineNo}
-use Rattle.phrases.specs.declared.Kind.{Kind}
+use Rattle.sketch.specs.Kinds.{fieldsOf, measuredFields}
+use Rattle.sketch.specs.Made.{pointNo, lineNo}
 use Rattle.sketch.specs.declared.Contact.{Contact}
 use Rattle.sketch.specs.declared.Equation.{Equation}
+use Rattle.sketch.specs.declared.Gauge.{Gauge}
+use Rattle.sketch.specs.declared.Kind.{Kind}
 use Rattle.sketch.specs.declared.Measure.{Measure}
 use Rattle.sketch.specs.declared.PointNo.{PointNo}
 use Rattle.sketch.specs.declared.LineNo.{LineNo}
 use Rattle.sketch.specs.declared.Rad.{Rad}
 use Rattle.spelling.specs.Letters.{ascii}
 use Rattle.spelling.specs.Printed.{decimal, hexadecimal, hexDigit}
-use Rattle.grammar.specs.Job.{axisX, axisY, plus, minus, byPoint, plain, outside, inside, Contents, fieldsOf, Gauge, ofDistance, ofAxisDistance, ofLength, ofPointLine, ofRadius, kindOf, valueless, EquationItem, MeasureItem}
+use Rattle.grammar.specs.Job.{axisX, axisY, plus, minus, byPoint, plain, outside, inside, Contents, EquationItem, MeasureItem}
 use Rattle.grammar.specs.Meaning.{activeOf, measuredOf}
 use Rattle.grammar.specs.Printed.{equationLineText, measureLineText}
 
@@ -28,7 +30,7 @@ a & b = (a, b)
 abbrev EquationLine : (k : Kind) → Contents (fieldsOf k) → String → Equation → Type 0
 EquationLine k c s e = let i : EquationItem = record { kind = k; contents = c } in (equationLineText i ≡ ascii s) × (activeOf i ≡ record { equation = e })
 
-abbrev MeasureLine : (g : Gauge) → Contents (valueless (fieldsOf (kindOf g))) → String → Measure → Type 0
+abbrev MeasureLine : (g : Gauge) → Contents (measuredFields g) → String → Measure → Type 0
 MeasureLine g c s m = let i : MeasureItem = record { gauge = g; contents = c } in (measureLineText i ≡ ascii s) × (measuredOf i ≡ record { measure = m })
 
 abbrev P : ℕ → PointNo
@@ -77,10 +79,10 @@ inside-it = (refl, refl)
 
 -- measures omit the value
 measures :
-    MeasureLine ofDistance (0 & 1 & tt) "m=distance,0,1\n" (Measure.Distance (P 0) (P 1))
-    × MeasureLine ofAxisDistance (0 & 1 & axisX & minus & tt) "m=axisdistance,0,1,x,-\n" (Measure.AxisDistance (P 0) (P 1) 0 (neg one))
-    × MeasureLine ofLength (0 & tt) "m=length,0\n" (Measure.Length (L 0))
-    × MeasureLine ofPointLine (0 & 1 & plus & tt) "m=pointline,0,1,+\n" (Measure.PointLine (P 0) (L 1) one)
-    × MeasureLine ofRadius (0 & 1 & tt) "m=radius,0,1\n" (Measure.Radius (P 0) (P 1))
+    MeasureLine Gauge.Distance (0 & 1 & tt) "m=distance,0,1\n" (Measure.Distance (P 0) (P 1))
+    × MeasureLine Gauge.AxisDistance (0 & 1 & axisX & minus & tt) "m=axisdistance,0,1,x,-\n" (Measure.AxisDistance (P 0) (P 1) 0 (neg one))
+    × MeasureLine Gauge.Length (0 & tt) "m=length,0\n" (Measure.Length (L 0))
+    × MeasureLine Gauge.PointLine (0 & 1 & plus & tt) "m=pointline,0,1,+\n" (Measure.PointLine (P 0) (L 1) one)
+    × MeasureLine Gauge.Radius (0 & 1 & tt) "m=radius,0,1\n" (Measure.Radius (P 0) (P 1))
 unfolding decimal
 measures = ((refl, refl), (refl, refl), (refl, refl), (refl, refl), (refl, refl))

@@ -4,24 +4,21 @@ use Prim.Native.Nat.{ℕ}
 use lib.Ieee.{Float, binary64, ofBits, neg}
 use lib.ListN.{length}
 use Rattle.floats.specs.Ops.{one}
-use Rattle.phrases.specs.Fields.{pointNo, lineNo}
-use Rattle.phrases.specs.declared.Kind.{Kind}
 use Rattle.plane.specs.declared.Vec2.{Vec2}
 use Rattle.sketch.specs.Blank.{blankPoint, blankActive, blankMeasured, filled}
 use Rattle.sketch.specs.Involved.{noLine}
+use Rattle.sketch.specs.Kinds.{fieldsOf, measuredFields}
+use Rattle.sketch.specs.Made.{pointNo, lineNo, equationFrom, measureFrom, Held, Row, rowFields}
 use Rattle.sketch.specs.declared.Active.{Active}
 use Rattle.sketch.specs.declared.Build.{Build}
 use Rattle.sketch.specs.declared.Contact.{Contact}
-use Rattle.sketch.specs.declared.Equation.{Equation}
 use Rattle.sketch.specs.declared.Line.{Line}
-use Rattle.sketch.specs.declared.LineNo.{LineNo}
-use Rattle.sketch.specs.declared.Measure.{Measure}
 use Rattle.sketch.specs.declared.Measured.{Measured}
 use Rattle.sketch.specs.declared.Point.{Point}
-use Rattle.sketch.specs.declared.PointNo.{PointNo}
 use Rattle.sketch.specs.declared.Rad.{Rad}
+use Rattle.sketch.specs.declared.Sort.{Sort}
 use Rattle.sketch.specs.declared.State.{State}
-use Rattle.grammar.specs.Job.{Axis, axisX, axisY, Sign, plus, minus, Radius, byPoint, plain, Touch, outside, inside, Field, point, line, value, axis, side, radius, contact, Content, Contents, fieldsOf, Gauge, ofDistance, ofAxisDistance, ofLength, ofPointLine, ofRadius, kindOf, valueless, Place, Standing, free, kept, placed, PointItem, LineItem, EquationItem, MeasureItem, Job}
+use Rattle.grammar.specs.Job.{Axis, axisX, axisY, Sign, plus, minus, Radius, byPoint, plain, Touch, outside, inside, Content, Contents, Place, Standing, free, kept, placed, PointItem, LineItem, EquationItem, MeasureItem, Job}
 
 abbrev pub floatOf : ℕ → Float
 floatOf b = ofBits binary64 b
@@ -42,63 +39,19 @@ abbrev pub contactOf : Touch → Contact
 contactOf outside = Contact.Outside
 contactOf (inside k) = Contact.Inside (signOf k)
 
--- what the fields of an equation are
-abbrev pub Meant : Field → Type 0
-Meant point = PointNo
-Meant line = LineNo
-Meant value = Float
-Meant axis = ℕ
-Meant side = Float
-Meant radius = Rad
-Meant contact = Contact
+-- what stands in the fields
+abbrev pub meantOf : (f : Sort) → Content f → Held f
+meantOf Sort.Point n = pointNo n
+meantOf Sort.Line n = lineNo n
+meantOf Sort.Value b = floatOf b
+meantOf Sort.Axis a = axisOf a
+meantOf Sort.Side k = signOf k
+meantOf Sort.Radius r = radOf r
+meantOf Sort.Contact o = contactOf o
 
-abbrev pub meantOf : (f : Field) → Content f → Meant f
-meantOf point n = pointNo n
-meantOf line n = lineNo n
-meantOf value b = floatOf b
-meantOf axis a = axisOf a
-meantOf side k = signOf k
-meantOf radius r = radOf r
-meantOf contact o = contactOf o
-
-abbrev pub Means : List Field → Type 0
-Means [] = Unit {0}
-Means (f ∷ l) = Meant f × Means l
-
-abbrev pub meansOf : (l : List Field) → Contents l → Means l
+abbrev pub meansOf : (l : List Sort) → Contents l → Row l
 meansOf [] v = tt
 meansOf (f ∷ l) v = (meantOf f (v .0), meansOf l (v .1))
-
--- the Rust's constructor on the fields in their order
-abbrev pub equationFrom : (k : Kind) → Means (fieldsOf k) → Equation
-equationFrom Kind.Coincident m = Equation.Coincident (m .0) (m .1 .0)
-equationFrom Kind.Level m = Equation.Level (m .0) (m .1 .0) (m .1 .1 .0)
-equationFrom Kind.Parallel m = Equation.Parallel (m .0) (m .1 .0)
-equationFrom Kind.Perpendicular m = Equation.Perpendicular (m .0) (m .1 .0)
-equationFrom Kind.Collinear m = Equation.Collinear (m .0) (m .1 .0)
-equationFrom Kind.Equal m = Equation.Equal (m .0) (m .1 .0)
-equationFrom Kind.Held m = Equation.Held
-equationFrom Kind.Distance m = Equation.Distance (m .0) (m .1 .0) (m .1 .1 .0)
-equationFrom Kind.AxisDistance m = Equation.AxisDistance (m .0) (m .1 .0) (m .1 .1 .0) (m .1 .1 .1 .0) (m .1 .1 .1 .1 .0)
-equationFrom Kind.Length m = Equation.Length (m .0) (m .1 .0)
-equationFrom Kind.PointLine m = Equation.PointLine (m .0) (m .1 .0) (m .1 .1 .0) (m .1 .1 .1 .0)
-equationFrom Kind.ArcEnds m = Equation.ArcEnds (m .0) (m .1 .0) (m .1 .1 .0)
-equationFrom Kind.Radius m = Equation.Radius (m .0) (m .1 .0) (m .1 .1 .0)
-equationFrom Kind.LineCircle m = Equation.LineCircle (m .0) (m .1 .0) (m .1 .1 .0) (m .1 .1 .1 .0)
-equationFrom Kind.CircleCircle m = Equation.CircleCircle (m .0) (m .1 .0) (m .1 .1 .0) (m .1 .1 .1 .0) (m .1 .1 .1 .1 .0)
-equationFrom Kind.LineArcAt m = Equation.LineArcAt (m .0) (m .1 .0) (m .1 .1 .0)
-equationFrom Kind.ArcArcAt m = Equation.ArcArcAt (m .0) (m .1 .0) (m .1 .1 .0)
-equationFrom Kind.Midpoint m = Equation.Midpoint (m .0) (m .1 .0)
-equationFrom Kind.ArcMidpoint m = Equation.ArcMidpoint (m .0) (m .1 .0) (m .1 .1 .0) (m .1 .1 .1 .0)
-equationFrom Kind.Symmetric m = Equation.Symmetric (m .0) (m .1 .0) (m .1 .1 .0)
-equationFrom Kind.EqualRadius m = Equation.EqualRadius (m .0) (m .1 .0) (m .1 .1 .0) (m .1 .1 .1 .0)
-
-abbrev pub measureFrom : (g : Gauge) → Means (valueless (fieldsOf (kindOf g))) → Measure
-measureFrom ofDistance m = Measure.Distance (m .0) (m .1 .0)
-measureFrom ofAxisDistance m = Measure.AxisDistance (m .0) (m .1 .0) (m .1 .1 .0) (m .1 .1 .1 .0)
-measureFrom ofLength m = Measure.Length (m .0)
-measureFrom ofPointLine m = Measure.PointLine (m .0) (m .1 .0) (m .1 .1 .0)
-measureFrom ofRadius m = Measure.Radius (m .0) (m .1 .0)
 
 abbrev pub vecOf : Place → Vec2
 vecOf p = record { x = floatOf (p .x); y = floatOf (p .y) }
@@ -115,10 +68,10 @@ abbrev pub lineOf : LineItem → Line
 lineOf l = record { from = pointNo (l .from); to = pointNo (l .to) }
 
 abbrev pub activeOf : EquationItem → Active
-activeOf e = record { equation = equationFrom (e .kind) (meansOf (fieldsOf (e .kind)) (e .contents)) }
+activeOf e = let l = fieldsOf (e .kind) in record { equation = equationFrom (e .kind) (rowFields l (meansOf l (e .contents))) }
 
 abbrev pub measuredOf : MeasureItem → Measured
-measuredOf m = record { measure = measureFrom (m .gauge) (meansOf (valueless (fieldsOf (kindOf (m .gauge)))) (m .contents)) }
+measuredOf m = let l = measuredFields (m .gauge) in record { measure = measureFrom (m .gauge) (rowFields l (meansOf l (m .contents))) }
 
 abbrev pub buildOf : Job → Build
 buildOf j = record {

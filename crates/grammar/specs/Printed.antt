@@ -2,9 +2,11 @@
 use mathlib.Core.List.{List, [], _∷_, _++_}
 use Prim.Native.Nat.{ℕ}
 use Rattle.phrases.specs.Kinds.{nameOf}
+use Rattle.sketch.specs.Kinds.{fieldsOf, kindOf, measuredFields}
+use Rattle.sketch.specs.declared.Sort.{Sort}
 use Rattle.spelling.specs.Letters.{ascii}
 use Rattle.spelling.specs.Printed.{wholeText, floatText}
-use Rattle.grammar.specs.Job.{Axis, axisX, axisY, Sign, plus, minus, Radius, byPoint, plain, Touch, outside, inside, Field, point, line, value, axis, side, radius, contact, Content, Contents, fieldsOf, kindOf, valueless, Place, Standing, free, kept, placed, PointItem, LineItem, EquationItem, MeasureItem, Counts, countsOf, Job}
+use Rattle.grammar.specs.Job.{Axis, axisX, axisY, Sign, plus, minus, Radius, byPoint, plain, Touch, outside, inside, Content, Contents, Place, Standing, free, kept, placed, PointItem, LineItem, EquationItem, MeasureItem, Counts, countsOf, Job}
 
 abbrev pub axisText : Axis → List ℕ
 axisText axisX = ascii "x"
@@ -23,27 +25,27 @@ abbrev pub touchText : Touch → List ℕ
 touchText outside = ascii "o"
 touchText (inside k) = signText k
 
-abbrev pub contentText : (f : Field) → Content f → List ℕ
-contentText point n = wholeText n
-contentText line n = wholeText n
-contentText value b = floatText b
-contentText axis a = axisText a
-contentText side k = signText k
-contentText radius r = radiusText r
-contentText contact o = touchText o
+abbrev pub contentText : (f : Sort) → Content f → List ℕ
+contentText Sort.Point n = wholeText n
+contentText Sort.Line n = wholeText n
+contentText Sort.Value b = floatText b
+contentText Sort.Axis a = axisText a
+contentText Sort.Side k = signText k
+contentText Sort.Radius r = radiusText r
+contentText Sort.Contact o = touchText o
 
 -- the fields, each with the comma that parts it from what stands before it
-abbrev pub contentsText : (l : List Field) → Contents l → List ℕ
+abbrev pub contentsText : (l : List Sort) → Contents l → List ℕ
 contentsText [] v = []
 contentsText (f ∷ l) v = ascii "," ++ contentText f (v .0) ++ contentsText l (v .1)
 
--- The kind in lower case, then its fields. The names are one table, which the reader and this text cite: it stands with the kinds
--- themselves, below both (crates/phrases/specs/Kinds.antt).
+-- The kind in lower case, then its fields. The names are one table, which the reader and this text cite: it stands below both
+-- (crates/phrases/specs/Kinds.antt).
 abbrev pub equationText : EquationItem → List ℕ
 equationText e = nameOf (e .kind) ++ contentsText (fieldsOf (e .kind)) (e .contents)
 
 abbrev pub measureText : MeasureItem → List ℕ
-measureText m = nameOf (kindOf (m .gauge)) ++ contentsText (valueless (fieldsOf (kindOf (m .gauge)))) (m .contents)
+measureText m = nameOf (kindOf (m .gauge)) ++ contentsText (measuredFields (m .gauge)) (m .contents)
 
 abbrev pub placeText : Place → List ℕ
 placeText p = floatText (p .x) ++ ascii "," ++ floatText (p .y)

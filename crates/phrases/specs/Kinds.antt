@@ -4,10 +4,10 @@ use mathlib.Core.Bool.{cond}
 use mathlib.Core.List.{List, [], _∷_}
 use Prim.Native.Nat.{ℕ}
 use Rattle.loops.specs.Turns.{fold}
+use Rattle.sketch.specs.declared.Kind.{Kind}
 use Rattle.spelling.specs.Letters.{ascii}
 use Rattle.spelling.specs.Places.{eatOf}
 use Rattle.spelling.specs.declared.Cursor.{Cursor}
-use Rattle.phrases.specs.declared.Kind.{Kind}
 use Rattle.phrases.specs.declared.KindRead.{KindRead}
 
 -- past the word w

@@ -1,14 +1,10 @@
 // The fields of equations and measures, each with the comma in front of it.
 ghost use mathlib.Core.Path.{_≡_};
 ghost use Rattle.phrases.specs.Fields.{numberAt, axisAt, valueAt, sideAt, radAt, contactAt, vecAt};
-use crate::AxisRead;
-use crate::ContactRead;
-use crate::RadRead;
+use crate::OperandRead;
 use crate::VecRead;
+use crate::operands::holding;
 use plane::Vec2;
-use sketch::Contact;
-use sketch::PointNo;
-use sketch::Rad;
 use spelling::Cursor;
 use spelling::FloatRead;
 use spelling::WholeRead;
@@ -30,15 +26,15 @@ pub(crate) fn value(s: &[u8], c: Cursor) -> FloatRead
     float(s, eat(s, c, b','))
 }
 
-pub(crate) fn axis(s: &[u8], c: Cursor) -> AxisRead
+pub(crate) fn axis(s: &[u8], c: Cursor) -> WholeRead
     ensures { λ r. ⌜ r ≡ axisAt (now (s .entry)) c ⌝ }
 {
     let x = word(s, c, b",x");
     if x.ok {
-        return AxisRead { axis: 0, next: x };
+        return WholeRead { value: 0, next: x };
     }
-    AxisRead {
-        axis: 1,
+    WholeRead {
+        value: 1,
         next: word(s, c, b",y"),
     }
 }
@@ -59,42 +55,27 @@ pub(crate) fn side(s: &[u8], c: Cursor) -> FloatRead
     }
 }
 
-pub(crate) fn rad(s: &[u8], c: Cursor) -> RadRead
+pub(crate) fn rad(s: &[u8], c: Cursor) -> OperandRead
     ensures { λ r. ⌜ r ≡ radAt (now (s .entry)) c ⌝ }
 {
     let by_point = word(s, c, b",p");
     if by_point.ok {
         let p = number(s, by_point);
-        let next = p.next;
-        return RadRead {
-            rad: Rad::Point(PointNo(p.value)),
-            next,
-        };
+        return holding(p.value, 0.0, 1, p.next);
     }
     let v = value(s, word(s, c, b",v"));
-    let next = v.next;
-    RadRead {
-        rad: Rad::Value(v.value),
-        next,
-    }
+    holding(0, v.value, 0, v.next)
 }
 
-pub(crate) fn contact(s: &[u8], c: Cursor) -> ContactRead
+pub(crate) fn contact(s: &[u8], c: Cursor) -> OperandRead
     ensures { λ r. ⌜ r ≡ contactAt (now (s .entry)) c ⌝ }
 {
     let outside = word(s, c, b",o");
     if outside.ok {
-        return ContactRead {
-            contact: Contact::Outside,
-            next: outside,
-        };
+        return holding(0, 0.0, 1, outside);
     }
     let sign = side(s, c);
-    let next = sign.next;
-    ContactRead {
-        contact: Contact::Inside(sign.value),
-        next,
-    }
+    holding(0, sign.value, 0, sign.next)
 }
 
 // Two floats; in front of the first there is no comma.

@@ -1,74 +1,22 @@
-// The fields of each kind of measure: those of the equation of that name, without its value.
+// A measure: the name of a kind that is measured, and the fields of that kind without the value.
 ghost use mathlib.Core.Path.{_≡_};
-ghost use Rattle.phrases.specs.Measures.{distanceAt, axisDistanceAt, lengthAt, pointLineAt, radiusAt, measureAt};
+ghost use Rattle.phrases.specs.Measures.{gaugedAt, measureAt};
 use crate::MeasureRead;
-use crate::fields::axis;
-use crate::fields::number;
-use crate::fields::side;
-use sketch::LineNo;
-use sketch::Measure;
-use sketch::PointNo;
+use crate::made::measure_of;
+use crate::operands::fields;
+use crate::table::of_gauge;
+use sketch::Gauge;
 use spelling::Cursor;
 use spelling::word;
 
-pub(crate) fn distance(s: &[u8], c: Cursor) -> MeasureRead
-    ensures { λ r. ⌜ r ≡ distanceAt (now (s .entry)) c ⌝ }
+fn gauged(s: &[u8], g: Gauge, c: Cursor) -> MeasureRead
+    ensures { λ r. ⌜ r ≡ gaugedAt (now (s .entry)) g c ⌝ }
 {
-    let p = number(s, c);
-    let q = number(s, p.next);
-    let next = q.next;
+    let read = fields(s, of_gauge(g), c);
+    let operands = read.operands;
+    let next = read.next;
     MeasureRead {
-        measure: Measure::Distance(PointNo(p.value), PointNo(q.value)),
-        next,
-    }
-}
-
-pub(crate) fn axis_distance(s: &[u8], c: Cursor) -> MeasureRead
-    ensures { λ r. ⌜ r ≡ axisDistanceAt (now (s .entry)) c ⌝ }
-{
-    let p = number(s, c);
-    let q = number(s, p.next);
-    let a = axis(s, q.next);
-    let k = side(s, a.next);
-    let next = k.next;
-    MeasureRead {
-        measure: Measure::AxisDistance(PointNo(p.value), PointNo(q.value), a.axis, k.value),
-        next,
-    }
-}
-
-pub(crate) fn length(s: &[u8], c: Cursor) -> MeasureRead
-    ensures { λ r. ⌜ r ≡ lengthAt (now (s .entry)) c ⌝ }
-{
-    let l = number(s, c);
-    let next = l.next;
-    MeasureRead {
-        measure: Measure::Length(LineNo(l.value)),
-        next,
-    }
-}
-
-pub(crate) fn point_line(s: &[u8], c: Cursor) -> MeasureRead
-    ensures { λ r. ⌜ r ≡ pointLineAt (now (s .entry)) c ⌝ }
-{
-    let p = number(s, c);
-    let l = number(s, p.next);
-    let k = side(s, l.next);
-    let next = k.next;
-    MeasureRead {
-        measure: Measure::PointLine(PointNo(p.value), LineNo(l.value), k.value),
-        next,
-    }
-}
-
-pub(crate) fn radius(s: &[u8], c: Cursor) -> MeasureRead
-    ensures { λ r. ⌜ r ≡ radiusAt (now (s .entry)) c ⌝ }
-{
-    let p = number(s, c);
-    let q = number(s, p.next);
-    let next = q.next;
-    MeasureRead {
-        measure: Measure::Radius(PointNo(p.value), PointNo(q.value)),
+        measure: measure_of(g, operands),
         next,
     }
 }
@@ -79,19 +27,19 @@ pub fn measure(s: &[u8], c: Cursor) -> MeasureRead
 {
     let named = word(s, c, b"distance");
     if named.ok {
-        return distance(s, named);
+        return gauged(s, Gauge::Distance, named);
     }
     let named = word(s, c, b"axisdistance");
     if named.ok {
-        return axis_distance(s, named);
+        return gauged(s, Gauge::AxisDistance, named);
     }
     let named = word(s, c, b"length");
     if named.ok {
-        return length(s, named);
+        return gauged(s, Gauge::Length, named);
     }
     let named = word(s, c, b"pointline");
     if named.ok {
-        return point_line(s, named);
+        return gauged(s, Gauge::PointLine, named);
     }
-    radius(s, word(s, c, b"radius"))
+    gauged(s, Gauge::Radius, word(s, c, b"radius"))
 }

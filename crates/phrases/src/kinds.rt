@@ -1,8 +1,8 @@
 // The kinds of equations by their names: the Rust's, in small letters.
 ghost use mathlib.Core.Path.{_≡_};
 ghost use Rattle.phrases.specs.Kinds.{orNamed, kindAt};
-use crate::Kind;
 use crate::KindRead;
+use sketch::Kind;
 use spelling::Cursor;
 use spelling::word;
 
@@ -11,7 +11,14 @@ fn or_named(s: &[u8], c: Cursor, found: KindRead, w: &[u8], kind: Kind) -> KindR
     ensures { λ r. ⌜ r ≡ orNamed (now (s .entry)) c found (now (w .entry)) kind ⌝ }
 {
     if found.next.ok {
-        return found;
+        let kind = found.kind;
+        return KindRead {
+            kind,
+            next: Cursor {
+                at: found.next.at,
+                ok: found.next.ok,
+            },
+        };
     }
     KindRead {
         kind,

@@ -4,42 +4,30 @@ mod equations;
 mod fields;
 mod gauges;
 mod kinds;
+mod made;
 mod operands;
+mod table;
 
 pub use equations::equation;
 pub use fields::number;
 pub use fields::vec;
 pub use gauges::measure;
 use plane::Vec2;
-use sketch::Contact;
 use sketch::Equation;
+use sketch::Kind;
 use sketch::Measure;
-use sketch::Rad;
+use sketch::Operand;
+use sketch::Sort;
 use spelling::Cursor;
 
-// The kinds of an equation, before its fields are read.
-pub enum Kind {
-    Coincident,
-    Level,
-    Parallel,
-    Perpendicular,
-    Collinear,
-    Equal,
-    Held,
-    Distance,
-    AxisDistance,
-    Length,
-    PointLine,
-    ArcEnds,
-    Radius,
-    LineCircle,
-    CircleCircle,
-    LineArcAt,
-    ArcArcAt,
-    Midpoint,
-    ArcMidpoint,
-    Symmetric,
-    EqualRadius,
+// The sorts of a kind's fields, in their order.
+pub enum Sorts {
+    None,
+    One(Sort),
+    Two(Sort, Sort),
+    Three(Sort, Sort, Sort),
+    Four(Sort, Sort, Sort, Sort),
+    Five(Sort, Sort, Sort, Sort, Sort),
 }
 
 // What was read, and the place after it.
@@ -48,23 +36,18 @@ pub struct KindRead {
     pub next: Cursor,
 }
 
-pub struct AxisRead {
-    pub axis: usize,
-    pub next: Cursor,
-}
-
-pub struct RadRead {
-    pub rad: Rad,
-    pub next: Cursor,
-}
-
-pub struct ContactRead {
-    pub contact: Contact,
-    pub next: Cursor,
-}
-
 pub struct VecRead {
     pub vec: Vec2,
+    pub next: Cursor,
+}
+
+pub struct OperandRead {
+    pub operand: Operand,
+    pub next: Cursor,
+}
+
+pub struct FieldsRead {
+    pub operands: [Operand; 5],
     pub next: Cursor,
 }
 

@@ -1,295 +1,127 @@
-// The fields of each kind of equation, in the Rust's order, after its name.
+// What stands in the fields of an equation or of a measure, by their sorts.
 ghost use mathlib.Core.Path.{_≡_};
-ghost use Rattle.phrases.specs.Equations.{coincidentAt, levelAt, parallelAt, perpendicularAt, collinearAt, equalAt, distanceAt, axisDistanceAt, lengthAt, pointLineAt, arcEndsAt, radiusAt, lineCircleAt, circleCircleAt, lineArcAtAt, arcArcAtAt, midpointAt, arcMidpointAt, symmetricAt, equalRadiusAt};
-use crate::EquationRead;
+ghost use Rattle.sketch.specs.Made as Made;
+ghost use mathlib.Core.List.{_∷_, []};
+ghost use Rattle.phrases.specs.Fields.{byNumber, byValue, operandAt, sortsOf, fieldsAt};
+use crate::FieldsRead;
+use crate::OperandRead;
+use crate::Sorts;
 use crate::fields::axis;
 use crate::fields::contact;
 use crate::fields::number;
 use crate::fields::rad;
 use crate::fields::side;
 use crate::fields::value;
-use sketch::Equation;
-use sketch::LineNo;
-use sketch::PointNo;
+use sketch::Operand;
+use sketch::Sort;
 use spelling::Cursor;
+use spelling::FloatRead;
+use spelling::WholeRead;
 
-pub(crate) fn coincident(s: &[u8], c: Cursor) -> EquationRead
-    ensures { λ r. ⌜ r ≡ coincidentAt (now (s .entry)) c ⌝ }
+// A place that is handed on is made anew from its two parts, here and below: moved as a whole it would wait until both are stored.
+pub(crate) fn holding(number: usize, value: f64, bare: usize, next: Cursor) -> OperandRead
+    ensures { λ r. ⌜ r ≡ record { operand = Made.operand number value bare; next = next } ⌝ }
 {
-    let p = number(s, c);
-    let q = number(s, p.next);
-    let next = q.next;
-    EquationRead {
-        equation: Equation::Coincident(PointNo(p.value), PointNo(q.value)),
-        next,
+    OperandRead {
+        operand: Operand {
+            number,
+            value,
+            bare,
+        },
+        next: Cursor {
+            at: next.at,
+            ok: next.ok,
+        },
     }
 }
 
-pub(crate) fn level(s: &[u8], c: Cursor) -> EquationRead
-    ensures { λ r. ⌜ r ≡ levelAt (now (s .entry)) c ⌝ }
+fn by_number(n: WholeRead) -> OperandRead
+    ensures { λ r. ⌜ r ≡ byNumber n ⌝ }
 {
-    let p = number(s, c);
-    let q = number(s, p.next);
-    let a = axis(s, q.next);
-    let next = a.next;
-    EquationRead {
-        equation: Equation::Level(PointNo(p.value), PointNo(q.value), a.axis),
-        next,
+    holding(n.value, 0.0, 0, n.next)
+}
+
+fn by_value(v: FloatRead) -> OperandRead
+    ensures { λ r. ⌜ r ≡ byValue v ⌝ }
+{
+    holding(0, v.value, 0, v.next)
+}
+
+// One field, with the comma in front of it.
+fn operand(s: &[u8], sort: Sort, c: Cursor) -> OperandRead
+    ensures { λ r. ⌜ r ≡ operandAt (now (s .entry)) sort c ⌝ }
+{
+    let c = Cursor { at: c.at, ok: c.ok };
+    match sort {
+        Sort::Point => by_number(number(s, c)),
+        Sort::Line => by_number(number(s, c)),
+        Sort::Value => by_value(value(s, c)),
+        Sort::Axis => by_number(axis(s, c)),
+        Sort::Side => by_value(side(s, c)),
+        Sort::Radius => rad(s, c),
+        Sort::Contact => contact(s, c),
     }
 }
 
-pub(crate) fn parallel(s: &[u8], c: Cursor) -> EquationRead
-    ensures { λ r. ⌜ r ≡ parallelAt (now (s .entry)) c ⌝ }
+fn five(a: Operand, b: Operand, d: Operand, e: Operand, f: Operand, next: Cursor) -> FieldsRead
+    ensures { λ r. ⌜ r ≡ record { operands = a ∷ b ∷ d ∷ e ∷ f ∷ []; next = next } ⌝ }
 {
-    let l = number(s, c);
-    let m = number(s, l.next);
-    let next = m.next;
-    EquationRead {
-        equation: Equation::Parallel(LineNo(l.value), LineNo(m.value)),
-        next,
+    FieldsRead {
+        operands: [a, b, d, e, f],
+        next: Cursor {
+            at: next.at,
+            ok: next.ok,
+        },
     }
 }
 
-pub(crate) fn perpendicular(s: &[u8], c: Cursor) -> EquationRead
-    ensures { λ r. ⌜ r ≡ perpendicularAt (now (s .entry)) c ⌝ }
+// The fields one after another, at most five; the places past them are blank.
+pub(crate) fn fields(s: &[u8], l: Sorts, c: Cursor) -> FieldsRead
+    ensures { λ r. ⌜ r ≡ fieldsAt (now (s .entry)) (sortsOf l) c ⌝ }
 {
-    let l = number(s, c);
-    let m = number(s, l.next);
-    let next = m.next;
-    EquationRead {
-        equation: Equation::Perpendicular(LineNo(l.value), LineNo(m.value)),
-        next,
-    }
-}
-
-pub(crate) fn collinear(s: &[u8], c: Cursor) -> EquationRead
-    ensures { λ r. ⌜ r ≡ collinearAt (now (s .entry)) c ⌝ }
-{
-    let l = number(s, c);
-    let m = number(s, l.next);
-    let next = m.next;
-    EquationRead {
-        equation: Equation::Collinear(LineNo(l.value), LineNo(m.value)),
-        next,
-    }
-}
-
-pub(crate) fn equal(s: &[u8], c: Cursor) -> EquationRead
-    ensures { λ r. ⌜ r ≡ equalAt (now (s .entry)) c ⌝ }
-{
-    let l = number(s, c);
-    let m = number(s, l.next);
-    let next = m.next;
-    EquationRead {
-        equation: Equation::Equal(LineNo(l.value), LineNo(m.value)),
-        next,
-    }
-}
-
-pub(crate) fn distance(s: &[u8], c: Cursor) -> EquationRead
-    ensures { λ r. ⌜ r ≡ distanceAt (now (s .entry)) c ⌝ }
-{
-    let p = number(s, c);
-    let q = number(s, p.next);
-    let v = value(s, q.next);
-    let next = v.next;
-    EquationRead {
-        equation: Equation::Distance(PointNo(p.value), PointNo(q.value), v.value),
-        next,
-    }
-}
-
-pub(crate) fn axis_distance(s: &[u8], c: Cursor) -> EquationRead
-    ensures { λ r. ⌜ r ≡ axisDistanceAt (now (s .entry)) c ⌝ }
-{
-    let p = number(s, c);
-    let q = number(s, p.next);
-    let a = axis(s, q.next);
-    let v = value(s, a.next);
-    let k = side(s, v.next);
-    let next = k.next;
-    EquationRead {
-        equation: Equation::AxisDistance(
-            PointNo(p.value),
-            PointNo(q.value),
-            a.axis,
-            v.value,
-            k.value,
-        ),
-        next,
-    }
-}
-
-pub(crate) fn length(s: &[u8], c: Cursor) -> EquationRead
-    ensures { λ r. ⌜ r ≡ lengthAt (now (s .entry)) c ⌝ }
-{
-    let l = number(s, c);
-    let v = value(s, l.next);
-    let next = v.next;
-    EquationRead {
-        equation: Equation::Length(LineNo(l.value), v.value),
-        next,
-    }
-}
-
-pub(crate) fn point_line(s: &[u8], c: Cursor) -> EquationRead
-    ensures { λ r. ⌜ r ≡ pointLineAt (now (s .entry)) c ⌝ }
-{
-    let p = number(s, c);
-    let l = number(s, p.next);
-    let v = value(s, l.next);
-    let k = side(s, v.next);
-    let next = k.next;
-    EquationRead {
-        equation: Equation::PointLine(PointNo(p.value), LineNo(l.value), v.value, k.value),
-        next,
-    }
-}
-
-pub(crate) fn arc_ends(s: &[u8], c: Cursor) -> EquationRead
-    ensures { λ r. ⌜ r ≡ arcEndsAt (now (s .entry)) c ⌝ }
-{
-    let p = number(s, c);
-    let q = number(s, p.next);
-    let t = number(s, q.next);
-    let next = t.next;
-    EquationRead {
-        equation: Equation::ArcEnds(PointNo(p.value), PointNo(q.value), PointNo(t.value)),
-        next,
-    }
-}
-
-pub(crate) fn radius(s: &[u8], c: Cursor) -> EquationRead
-    ensures { λ r. ⌜ r ≡ radiusAt (now (s .entry)) c ⌝ }
-{
-    let p = number(s, c);
-    let q = number(s, p.next);
-    let v = value(s, q.next);
-    let next = v.next;
-    EquationRead {
-        equation: Equation::Radius(PointNo(p.value), PointNo(q.value), v.value),
-        next,
-    }
-}
-
-pub(crate) fn line_circle(s: &[u8], c: Cursor) -> EquationRead
-    ensures { λ r. ⌜ r ≡ lineCircleAt (now (s .entry)) c ⌝ }
-{
-    let l = number(s, c);
-    let p = number(s, l.next);
-    let r = rad(s, p.next);
-    let k = side(s, r.next);
-    let rad = r.rad;
-    let next = k.next;
-    EquationRead {
-        equation: Equation::LineCircle(LineNo(l.value), PointNo(p.value), rad, k.value),
-        next,
-    }
-}
-
-pub(crate) fn circle_circle(s: &[u8], c: Cursor) -> EquationRead
-    ensures { λ r. ⌜ r ≡ circleCircleAt (now (s .entry)) c ⌝ }
-{
-    let p = number(s, c);
-    let r = rad(s, p.next);
-    let q = number(s, r.next);
-    let w = rad(s, q.next);
-    let o = contact(s, w.next);
-    let rad = r.rad;
-    let other = w.rad;
-    let touch = o.contact;
-    let next = o.next;
-    EquationRead {
-        equation: Equation::CircleCircle(PointNo(p.value), rad, PointNo(q.value), other, touch),
-        next,
-    }
-}
-
-pub(crate) fn line_arc_at(s: &[u8], c: Cursor) -> EquationRead
-    ensures { λ r. ⌜ r ≡ lineArcAtAt (now (s .entry)) c ⌝ }
-{
-    let l = number(s, c);
-    let p = number(s, l.next);
-    let q = number(s, p.next);
-    let next = q.next;
-    EquationRead {
-        equation: Equation::LineArcAt(LineNo(l.value), PointNo(p.value), PointNo(q.value)),
-        next,
-    }
-}
-
-pub(crate) fn arc_arc_at(s: &[u8], c: Cursor) -> EquationRead
-    ensures { λ r. ⌜ r ≡ arcArcAtAt (now (s .entry)) c ⌝ }
-{
-    let p = number(s, c);
-    let q = number(s, p.next);
-    let t = number(s, q.next);
-    let next = t.next;
-    EquationRead {
-        equation: Equation::ArcArcAt(PointNo(p.value), PointNo(q.value), PointNo(t.value)),
-        next,
-    }
-}
-
-pub(crate) fn midpoint(s: &[u8], c: Cursor) -> EquationRead
-    ensures { λ r. ⌜ r ≡ midpointAt (now (s .entry)) c ⌝ }
-{
-    let p = number(s, c);
-    let l = number(s, p.next);
-    let next = l.next;
-    EquationRead {
-        equation: Equation::Midpoint(PointNo(p.value), LineNo(l.value)),
-        next,
-    }
-}
-
-pub(crate) fn arc_midpoint(s: &[u8], c: Cursor) -> EquationRead
-    ensures { λ r. ⌜ r ≡ arcMidpointAt (now (s .entry)) c ⌝ }
-{
-    let p = number(s, c);
-    let q = number(s, p.next);
-    let t = number(s, q.next);
-    let u = number(s, t.next);
-    let next = u.next;
-    EquationRead {
-        equation: Equation::ArcMidpoint(
-            PointNo(p.value),
-            PointNo(q.value),
-            PointNo(t.value),
-            PointNo(u.value),
-        ),
-        next,
-    }
-}
-
-pub(crate) fn symmetric(s: &[u8], c: Cursor) -> EquationRead
-    ensures { λ r. ⌜ r ≡ symmetricAt (now (s .entry)) c ⌝ }
-{
-    let p = number(s, c);
-    let q = number(s, p.next);
-    let l = number(s, q.next);
-    let next = l.next;
-    EquationRead {
-        equation: Equation::Symmetric(PointNo(p.value), PointNo(q.value), LineNo(l.value)),
-        next,
-    }
-}
-
-pub(crate) fn equal_radius(s: &[u8], c: Cursor) -> EquationRead
-    ensures { λ r. ⌜ r ≡ equalRadiusAt (now (s .entry)) c ⌝ }
-{
-    let p = number(s, c);
-    let q = number(s, p.next);
-    let t = number(s, q.next);
-    let u = number(s, t.next);
-    let next = u.next;
-    EquationRead {
-        equation: Equation::EqualRadius(
-            PointNo(p.value),
-            PointNo(q.value),
-            PointNo(t.value),
-            PointNo(u.value),
-        ),
-        next,
+    let none = Operand {
+        number: 0,
+        value: 0.0,
+        bare: 0,
+    };
+    match l {
+        Sorts::None => five(none, none, none, none, none, c),
+        Sorts::One(i) => {
+            let a = operand(s, i, c);
+            five(a.operand, none, none, none, none, a.next)
+        }
+        Sorts::Two(i, j) => {
+            let a = operand(s, i, c);
+            let b = operand(s, j, a.next);
+            five(a.operand, b.operand, none, none, none, b.next)
+        }
+        Sorts::Three(i, j, k) => {
+            let a = operand(s, i, c);
+            let b = operand(s, j, a.next);
+            let d = operand(s, k, b.next);
+            five(a.operand, b.operand, d.operand, none, none, d.next)
+        }
+        Sorts::Four(i, j, k, m) => {
+            let a = operand(s, i, c);
+            let b = operand(s, j, a.next);
+            let d = operand(s, k, b.next);
+            let e = operand(s, m, d.next);
+            five(a.operand, b.operand, d.operand, e.operand, none, e.next)
+        }
+        Sorts::Five(i, j, k, m, n) => {
+            let a = operand(s, i, c);
+            let b = operand(s, j, a.next);
+            let d = operand(s, k, b.next);
+            let e = operand(s, m, d.next);
+            let f = operand(s, n, e.next);
+            five(
+                a.operand,
+                b.operand,
+                d.operand,
+                e.operand,
+                f.operand,
+                f.next,
+            )
+        }
     }
 }

@@ -1,89 +1,32 @@
--- `shapes-are-whole`: an equation, and a measure, is built again from its shape, so the shape leaves nothing out. Assumes nothing.
+-- `shapes-are-whole`: an equation, and a measure, is made again from its shape, so the shape leaves nothing out. `fields-agree`: what is made
+-- of a kind and of fields of its sorts has that shape. Assumes nothing.
 use mathlib.Core.List.{List}
 use mathlib.Core.Path.{_≡_, refl, sym, ap, _∙_}
-use Prim.Native.Nat.{ℕ}
-use lib.Ieee.{Float}
-use lib.ListN.{getD}
-use Rattle.floats.specs.Ops.{zero⁺}
-use Rattle.sketch.specs.Fields.{Field, point, line, value, size, axis, side, radius, contact, Variant, shapeOf, Gauge, ofDistance, ofAxisDistance, ofLength, ofPointLine, ofRadius, measureShape, ShapesAreWhole}
-use Rattle.sketch.specs.Involved.{noPoint}
+use Rattle.sketch.specs.Fields.{Field, shapeOf, measureShape, ShapesAreWhole}
+use Rattle.sketch.specs.Kinds.{fieldsOf, measuredFields}
+use Rattle.sketch.specs.Made.{round, touching, radIn, contactIn, equationFrom, measureFrom, Row, rowFields, FieldsAgree}
 use Rattle.sketch.specs.declared.Contact.{Contact}
-use Rattle.sketch.specs.declared.Contact.the-variants.{Outside}
 use Rattle.sketch.specs.declared.Equation.{Equation}
-use Rattle.sketch.specs.declared.LineNo.{LineNo}
+use Rattle.sketch.specs.declared.Gauge.{Gauge}
+use Rattle.sketch.specs.declared.Kind.{Kind}
 use Rattle.sketch.specs.declared.Measure.{Measure}
-use Rattle.sketch.specs.declared.PointNo.{PointNo}
 use Rattle.sketch.specs.declared.Rad.{Rad}
 
--- what a field holds, and blanks for what it does not
-record Held : Type 0 where
-  asPoint : PointNo
-  asLine : LineNo
-  asNumber : Float
-  asAxis : ℕ
-  asRadius : Rad
-  asContact : Contact
+abbrev fromShape : Kind × List Field → Equation
+fromShape r = equationFrom (r .0) (r .1)
 
-abbrev holds : PointNo → LineNo → Float → ℕ → Rad → Contact → Held
-holds p l v a r k = record { asPoint = p; asLine = l; asNumber = v; asAxis = a; asRadius = r; asContact = k }
+abbrev fromMeasured : Gauge × List Field → Measure
+fromMeasured r = measureFrom (r .0) (r .1)
 
-abbrev first : LineNo
-first = record { 0 = 0 }
+rad-again : (r : Rad) → radIn (round r) ≡ r
+rad-again (Rad.Point p) = refl
+rad-again (Rad.Value v) = refl
 
-abbrev plain : Rad
-plain = Rad.Value zero⁺
+contact-again : (k : Contact) → contactIn (touching k) ≡ k
+contact-again Contact.Outside = refl
+contact-again (Contact.Inside s) = refl
 
-abbrev heldBy : Field → Held
-heldBy (point p) = holds p first zero⁺ 0 plain Outside
-heldBy (line l) = holds noPoint l zero⁺ 0 plain Outside
-heldBy (value v) = holds noPoint first v 0 plain Outside
-heldBy (size v) = holds noPoint first v 0 plain Outside
-heldBy (axis a) = holds noPoint first zero⁺ a plain Outside
-heldBy (side s) = holds noPoint first s 0 plain Outside
-heldBy (radius r) = holds noPoint first zero⁺ 0 r Outside
-heldBy (contact k) = holds noPoint first zero⁺ 0 plain k
-
--- from its name, and from what stands at each place
-abbrev built : Variant → (ℕ → Held) → Equation
-built Variant.Coincident f = Equation.Coincident (f 0 .asPoint) (f 1 .asPoint)
-built Variant.Level f = Equation.Level (f 0 .asPoint) (f 1 .asPoint) (f 2 .asAxis)
-built Variant.Parallel f = Equation.Parallel (f 0 .asLine) (f 1 .asLine)
-built Variant.Perpendicular f = Equation.Perpendicular (f 0 .asLine) (f 1 .asLine)
-built Variant.Collinear f = Equation.Collinear (f 0 .asLine) (f 1 .asLine)
-built Variant.Equal f = Equation.Equal (f 0 .asLine) (f 1 .asLine)
-built Variant.Held f = Equation.Held
-built Variant.Distance f = Equation.Distance (f 0 .asPoint) (f 1 .asPoint) (f 2 .asNumber)
-built Variant.AxisDistance f = Equation.AxisDistance (f 0 .asPoint) (f 1 .asPoint) (f 2 .asAxis) (f 3 .asNumber) (f 4 .asNumber)
-built Variant.Length f = Equation.Length (f 0 .asLine) (f 1 .asNumber)
-built Variant.PointLine f = Equation.PointLine (f 0 .asPoint) (f 1 .asLine) (f 2 .asNumber) (f 3 .asNumber)
-built Variant.ArcEnds f = Equation.ArcEnds (f 0 .asPoint) (f 1 .asPoint) (f 2 .asPoint)
-built Variant.Radius f = Equation.Radius (f 0 .asPoint) (f 1 .asPoint) (f 2 .asNumber)
-built Variant.LineCircle f = Equation.LineCircle (f 0 .asLine) (f 1 .asPoint) (f 2 .asRadius) (f 3 .asNumber)
-built Variant.CircleCircle f = Equation.CircleCircle (f 0 .asPoint) (f 1 .asRadius) (f 2 .asPoint) (f 3 .asRadius) (f 4 .asContact)
-built Variant.LineArcAt f = Equation.LineArcAt (f 0 .asLine) (f 1 .asPoint) (f 2 .asPoint)
-built Variant.ArcArcAt f = Equation.ArcArcAt (f 0 .asPoint) (f 1 .asPoint) (f 2 .asPoint)
-built Variant.Midpoint f = Equation.Midpoint (f 0 .asPoint) (f 1 .asLine)
-built Variant.ArcMidpoint f = Equation.ArcMidpoint (f 0 .asPoint) (f 1 .asPoint) (f 2 .asPoint) (f 3 .asPoint)
-built Variant.Symmetric f = Equation.Symmetric (f 0 .asPoint) (f 1 .asPoint) (f 2 .asLine)
-built Variant.EqualRadius f = Equation.EqualRadius (f 0 .asPoint) (f 1 .asPoint) (f 2 .asPoint) (f 3 .asPoint)
-
-abbrev gauged : Gauge → (ℕ → Held) → Measure
-gauged ofDistance f = Measure.Distance (f 0 .asPoint) (f 1 .asPoint)
-gauged ofAxisDistance f = Measure.AxisDistance (f 0 .asPoint) (f 1 .asPoint) (f 2 .asAxis) (f 3 .asNumber)
-gauged ofLength f = Measure.Length (f 0 .asLine)
-gauged ofPointLine f = Measure.PointLine (f 0 .asPoint) (f 1 .asLine) (f 2 .asNumber)
-gauged ofRadius f = Measure.Radius (f 0 .asPoint) (f 1 .asPoint)
-
-abbrev placed : List Field → ℕ → Held
-placed l i = heldBy (getD l i (axis 0))
-
-abbrev equationFrom : Variant × List Field → Equation
-equationFrom r = built (r .0) (placed (r .1))
-
-abbrev measureFrom : Gauge × List Field → Measure
-measureFrom r = gauged (r .0) (placed (r .1))
-
-again : (e : Equation) → equationFrom (shapeOf e) ≡ e
+again : (e : Equation) → fromShape (shapeOf e) ≡ e
 again (Equation.Coincident a b) = refl
 again (Equation.Level a b x) = refl
 again (Equation.Parallel i j) = refl
@@ -97,8 +40,8 @@ again (Equation.Length l v) = refl
 again (Equation.PointLine p l v s) = refl
 again (Equation.ArcEnds c f t) = refl
 again (Equation.Radius c f v) = refl
-again (Equation.LineCircle l c r s) = refl
-again (Equation.CircleCircle c₁ r₁ c₂ r₂ k) = refl
+again (Equation.LineCircle l c r s) = rw (rad-again r)
+again (Equation.CircleCircle c₁ r₁ c₂ r₂ k) = rw (rad-again r₁, rad-again r₂, contact-again k)
 again (Equation.LineArcAt l c p) = refl
 again (Equation.ArcArcAt c₁ c₂ p) = refl
 again (Equation.Midpoint p l) = refl
@@ -106,7 +49,7 @@ again (Equation.ArcMidpoint p c f t) = refl
 again (Equation.Symmetric p q l) = refl
 again (Equation.EqualRadius c₁ f₁ c₂ f₂) = refl
 
-gauged-again : (d : Measure) → measureFrom (measureShape d) ≡ d
+gauged-again : (d : Measure) → fromMeasured (measureShape d) ≡ d
 gauged-again (Measure.Distance a b) = refl
 gauged-again (Measure.AxisDistance a b x s) = refl
 gauged-again (Measure.Length l) = refl
@@ -115,6 +58,40 @@ gauged-again (Measure.Radius c f) = refl
 
 pub shapes-are-whole : ShapesAreWhole
 shapes-are-whole = (
-  λ e f h. sym (again e) ∙ ap equationFrom h ∙ again f,
-  λ d f h. sym (gauged-again d) ∙ ap measureFrom h ∙ gauged-again f,
+  λ e f h. sym (again e) ∙ ap fromShape h ∙ again f,
+  λ d f h. sym (gauged-again d) ∙ ap fromMeasured h ∙ gauged-again f,
 )
+
+-- `fields-agree`: kind by kind
+kind-agrees : (k : Kind) (m : Row (fieldsOf k)) → let l = rowFields (fieldsOf k) m in shapeOf (equationFrom k l) ≡ (k, l)
+kind-agrees Kind.Coincident m = refl
+kind-agrees Kind.Level m = refl
+kind-agrees Kind.Parallel m = refl
+kind-agrees Kind.Perpendicular m = refl
+kind-agrees Kind.Collinear m = refl
+kind-agrees Kind.Equal m = refl
+kind-agrees Kind.Held m = refl
+kind-agrees Kind.Distance m = refl
+kind-agrees Kind.AxisDistance m = refl
+kind-agrees Kind.Length m = refl
+kind-agrees Kind.PointLine m = refl
+kind-agrees Kind.ArcEnds m = refl
+kind-agrees Kind.Radius m = refl
+kind-agrees Kind.LineCircle m = rw (rad-again (m .1 .1 .0))
+kind-agrees Kind.CircleCircle m = rw (rad-again (m .1 .0), rad-again (m .1 .1 .1 .0), contact-again (m .1 .1 .1 .1 .0))
+kind-agrees Kind.LineArcAt m = refl
+kind-agrees Kind.ArcArcAt m = refl
+kind-agrees Kind.Midpoint m = refl
+kind-agrees Kind.ArcMidpoint m = refl
+kind-agrees Kind.Symmetric m = refl
+kind-agrees Kind.EqualRadius m = refl
+
+gauge-agrees : (g : Gauge) (m : Row (measuredFields g)) → let l = rowFields (measuredFields g) m in measureShape (measureFrom g l) ≡ (g, l)
+gauge-agrees Gauge.Distance m = refl
+gauge-agrees Gauge.AxisDistance m = refl
+gauge-agrees Gauge.Length m = refl
+gauge-agrees Gauge.PointLine m = refl
+gauge-agrees Gauge.Radius m = refl
+
+pub fields-agree : FieldsAgree
+fields-agree = record { equations = kind-agrees; measures = gauge-agrees }

@@ -9,6 +9,8 @@ use Rattle.sketch.specs.Parts.{pointsOf, linesOf, equationsOf, measuresO
 use Rattle.sketch.specs.declared.Build.{Build}
 use Rattle.sketch.specs.declared.Contact.{Contact}
 use Rattle.sketch.specs.declared.Equation.{Equation}
+use Rattle.sketch.specs.declared.Gauge.{Gauge}
+use Rattle.sketch.specs.declared.Kind.{Kind}
 use Rattle.sketch.specs.declared.Line.{Line}
 use Rattle.sketch.specs.declared.LineNo.{LineNo}
 use Rattle.sketch.specs.declared.Measure.{Measure}
@@ -29,45 +31,37 @@ pub data Field : Type 0 where
   radius : Rad → Field
   contact : Contact → Field
 
--- the Rust's variants, by name
-pub data Variant : Type 0 where
-  Coincident Level Parallel Perpendicular Collinear Equal Held Distance AxisDistance Length PointLine : Variant
-  ArcEnds Radius LineCircle CircleCircle LineArcAt ArcArcAt Midpoint ArcMidpoint Symmetric EqualRadius : Variant
-
--- a variant and what stands in its fields
-abbrev pub shapeOf : Equation → Variant × List Field
-shapeOf (Equation.Coincident a b) = (Variant.Coincident, point a ∷ point b ∷ [])
-shapeOf (Equation.Level a b x) = (Variant.Level, point a ∷ point b ∷ axis x ∷ [])
-shapeOf (Equation.Parallel i j) = (Variant.Parallel, line i ∷ line j ∷ [])
-shapeOf (Equation.Perpendicular i j) = (Variant.Perpendicular, line i ∷ line j ∷ [])
-shapeOf (Equation.Collinear i j) = (Variant.Collinear, line i ∷ line j ∷ [])
-shapeOf (Equation.Equal i j) = (Variant.Equal, line i ∷ line j ∷ [])
-shapeOf Equation.Held = (Variant.Held, [])
-shapeOf (Equation.Distance a b v) = (Variant.Distance, point a ∷ point b ∷ value v ∷ [])
-shapeOf (Equation.AxisDistance a b x v s) = (Variant.AxisDistance, point a ∷ point b ∷ axis x ∷ value v ∷ side s ∷ [])
-shapeOf (Equation.Length l v) = (Variant.Length, line l ∷ value v ∷ [])
-shapeOf (Equation.PointLine p l v s) = (Variant.PointLine, point p ∷ line l ∷ value v ∷ side s ∷ [])
-shapeOf (Equation.ArcEnds c f t) = (Variant.ArcEnds, point c ∷ point f ∷ point t ∷ [])
-shapeOf (Equation.Radius c f v) = (Variant.Radius, point c ∷ point f ∷ value v ∷ [])
-shapeOf (Equation.LineCircle l c r s) = (Variant.LineCircle, line l ∷ point c ∷ radius r ∷ side s ∷ [])
-shapeOf (Equation.CircleCircle c₁ r₁ c₂ r₂ k) = (Variant.CircleCircle, point c₁ ∷ radius r₁ ∷ point c₂ ∷ radius r₂ ∷ contact k ∷ [])
-shapeOf (Equation.LineArcAt l c p) = (Variant.LineArcAt, line l ∷ point c ∷ point p ∷ [])
-shapeOf (Equation.ArcArcAt c₁ c₂ p) = (Variant.ArcArcAt, point c₁ ∷ point c₂ ∷ point p ∷ [])
-shapeOf (Equation.Midpoint p l) = (Variant.Midpoint, point p ∷ line l ∷ [])
-shapeOf (Equation.ArcMidpoint p c f t) = (Variant.ArcMidpoint, point p ∷ point c ∷ point f ∷ point t ∷ [])
-shapeOf (Equation.Symmetric p q l) = (Variant.Symmetric, point p ∷ point q ∷ line l ∷ [])
-shapeOf (Equation.EqualRadius c₁ f₁ c₂ f₂) = (Variant.EqualRadius, point c₁ ∷ point f₁ ∷ point c₂ ∷ point f₂ ∷ [])
+-- an equation's kind, and what stands in its fields
+abbrev pub shapeOf : Equation → Kind × List Field
+shapeOf (Equation.Coincident a b) = (Kind.Coincident, point a ∷ point b ∷ [])
+shapeOf (Equation.Level a b x) = (Kind.Level, point a ∷ point b ∷ axis x ∷ [])
+shapeOf (Equation.Parallel i j) = (Kind.Parallel, line i ∷ line j ∷ [])
+shapeOf (Equation.Perpendicular i j) = (Kind.Perpendicular, line i ∷ line j ∷ [])
+shapeOf (Equation.Collinear i j) = (Kind.Collinear, line i ∷ line j ∷ [])
+shapeOf (Equation.Equal i j) = (Kind.Equal, line i ∷ line j ∷ [])
+shapeOf Equation.Held = (Kind.Held, [])
+shapeOf (Equation.Distance a b v) = (Kind.Distance, point a ∷ point b ∷ value v ∷ [])
+shapeOf (Equation.AxisDistance a b x v s) = (Kind.AxisDistance, point a ∷ point b ∷ axis x ∷ value v ∷ side s ∷ [])
+shapeOf (Equation.Length l v) = (Kind.Length, line l ∷ value v ∷ [])
+shapeOf (Equation.PointLine p l v s) = (Kind.PointLine, point p ∷ line l ∷ value v ∷ side s ∷ [])
+shapeOf (Equation.ArcEnds c f t) = (Kind.ArcEnds, point c ∷ point f ∷ point t ∷ [])
+shapeOf (Equation.Radius c f v) = (Kind.Radius, point c ∷ point f ∷ value v ∷ [])
+shapeOf (Equation.LineCircle l c r s) = (Kind.LineCircle, line l ∷ point c ∷ radius r ∷ side s ∷ [])
+shapeOf (Equation.CircleCircle c₁ r₁ c₂ r₂ k) = (Kind.CircleCircle, point c₁ ∷ radius r₁ ∷ point c₂ ∷ radius r₂ ∷ contact k ∷ [])
+shapeOf (Equation.LineArcAt l c p) = (Kind.LineArcAt, line l ∷ point c ∷ point p ∷ [])
+shapeOf (Equation.ArcArcAt c₁ c₂ p) = (Kind.ArcArcAt, point c₁ ∷ point c₂ ∷ point p ∷ [])
+shapeOf (Equation.Midpoint p l) = (Kind.Midpoint, point p ∷ line l ∷ [])
+shapeOf (Equation.ArcMidpoint p c f t) = (Kind.ArcMidpoint, point p ∷ point c ∷ point f ∷ point t ∷ [])
+shapeOf (Equation.Symmetric p q l) = (Kind.Symmetric, point p ∷ point q ∷ line l ∷ [])
+shapeOf (Equation.EqualRadius c₁ f₁ c₂ f₂) = (Kind.EqualRadius, point c₁ ∷ point f₁ ∷ point c₂ ∷ point f₂ ∷ [])
 
 -- measures have the fields of the equation of their name, but for its value
-pub data Gauge : Type 0 where
-  ofDistance ofAxisDistance ofLength ofPointLine ofRadius : Gauge
-
 abbrev pub measureShape : Measure → Gauge × List Field
-measureShape (Measure.Distance a b) = (ofDistance, point a ∷ point b ∷ [])
-measureShape (Measure.AxisDistance a b x s) = (ofAxisDistance, point a ∷ point b ∷ axis x ∷ side s ∷ [])
-measureShape (Measure.Length l) = (ofLength, line l ∷ [])
-measureShape (Measure.PointLine p l s) = (ofPointLine, point p ∷ line l ∷ side s ∷ [])
-measureShape (Measure.Radius c f) = (ofRadius, point c ∷ point f ∷ [])
+measureShape (Measure.Distance a b) = (Gauge.Distance, point a ∷ point b ∷ [])
+measureShape (Measure.AxisDistance a b x s) = (Gauge.AxisDistance, point a ∷ point b ∷ axis x ∷ side s ∷ [])
+measureShape (Measure.Length l) = (Gauge.Length, line l ∷ [])
+measureShape (Measure.PointLine p l s) = (Gauge.PointLine, point p ∷ line l ∷ side s ∷ [])
+measureShape (Measure.Radius c f) = (Gauge.Radius, point c ∷ point f ∷ [])
 
 -- the fields of an item of each of a build's four lists
 abbrev pub placeFields : Vec2 → List Field

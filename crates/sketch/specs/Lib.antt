@@ -6,6 +6,8 @@ pub mod Rows
 pub mod Involved
 pub mod Check
 pub mod Blank
+pub mod Kinds
+pub mod Made
 pub mod Given
 pub mod Looked
 pub mod Cases

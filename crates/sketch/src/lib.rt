@@ -85,6 +85,60 @@ pub enum Measure {
     Radius(PointNo, PointNo),
 }
 
+// The kinds of equations, by name.
+pub enum Kind {
+    Coincident,
+    Level,
+    Parallel,
+    Perpendicular,
+    Collinear,
+    Equal,
+    Held,
+    Distance,
+    AxisDistance,
+    Length,
+    PointLine,
+    ArcEnds,
+    Radius,
+    LineCircle,
+    CircleCircle,
+    LineArcAt,
+    ArcArcAt,
+    Midpoint,
+    ArcMidpoint,
+    Symmetric,
+    EqualRadius,
+}
+
+// The sorts of an equation's fields.
+pub enum Sort {
+    Point,
+    Line,
+    Value,
+    Axis,
+    Side,
+    Radius,
+    Contact,
+}
+
+// The kinds that are measured: a measure has the fields of its kind, but for the value.
+pub enum Gauge {
+    Distance,
+    AxisDistance,
+    Length,
+    PointLine,
+    Radius,
+}
+
+// What stands in a field: a point's, a line's or an axis's number, a value or a side, a radius or a contact. A radius by a point
+// and a contact outside are bare, which is 1: they have no value. It is a number since a bool leaves a gap, and a struct with a gap
+// is slow to move.
+pub struct Operand {
+    pub number: usize,
+    pub value: f64,
+    pub bare: usize,
+}
+
 // An array in a build holds structs, so an equation and a measure each stand in one of their own.
 pub struct Active {
     pub equation: Equation,

@@ -3,10 +3,10 @@ use mathlib.Core.List.{List, _++_}
 use mathlib.Core.Path.{_≡_, refl}
 use Prim.Native.Nat.{ℕ}
 use Rattle.loops.specs.Turns.{fold, upTo, turns}
-use Rattle.phrases.specs.Equations.{equationAt, levelAt}
-use Rattle.phrases.specs.Fields.{numberAt, valueAt, axisAt, vecAt}
+use Rattle.phrases.specs.Equations.{equationAt}
+use Rattle.phrases.specs.Fields.{numberAt, valueAt, axisAt, vecAt, operandAt}
 use Rattle.phrases.specs.Kinds.{orNamed, trying}
-use Rattle.phrases.specs.Measures.{named, measureAt, distanceAt}
+use Rattle.phrases.specs.Measures.{gaugedAt, named, measureAt}
 use Rattle.sketch.specs.declared.Ending.the-variants.{BadForm, TooMany}
 use Rattle.spelling.specs.Floating.{hexOf, nextHex}
 use Rattle.spelling.specs.Letters.{ascii}
@@ -30,30 +30,30 @@ rest =
 
 -- 01's example
 the-example : readOf (counts (ascii "3") ++ rest ++ ascii "\n") .outcome ≡ Read
-unfolding counts rest readOf countsAt countAt buildAt fold upTo turns hexOf nextHex furtherOf eatOf digitOf firstOf moreOf equationAt levelAt numberAt valueAt axisAt vecAt pointInto lineInto equationInto measureInto orNamed trying stateAt pointLine lineLine equationLine measureLine named measureAt distanceAt
+unfolding counts rest readOf countsAt countAt buildAt fold upTo turns hexOf nextHex furtherOf eatOf digitOf firstOf moreOf equationAt numberAt valueAt axisAt vecAt operandAt pointInto lineInto equationInto measureInto orNamed trying stateAt pointLine lineLine equationLine measureLine gaugedAt named measureAt
 the-example = refl
 
 -- without its last newline
 no-last-newline : readOf (counts (ascii "3") ++ rest) .outcome ≡ Ends BadForm
-unfolding counts rest readOf countsAt countAt buildAt fold upTo turns hexOf nextHex furtherOf eatOf digitOf firstOf moreOf equationAt levelAt numberAt valueAt axisAt vecAt pointInto lineInto equationInto measureInto orNamed trying stateAt pointLine lineLine equationLine measureLine named measureAt distanceAt
+unfolding counts rest readOf countsAt countAt buildAt fold upTo turns hexOf nextHex furtherOf eatOf digitOf firstOf moreOf equationAt numberAt valueAt axisAt vecAt operandAt pointInto lineInto equationInto measureInto orNamed trying stateAt pointLine lineLine equationLine measureLine gaugedAt named measureAt
 no-last-newline = refl
 
 -- with a newline too many
 more-after : readOf (counts (ascii "3") ++ rest ++ ascii "\n\n") .outcome ≡ Ends BadForm
-unfolding counts rest readOf countsAt countAt buildAt fold upTo turns hexOf nextHex furtherOf eatOf digitOf firstOf moreOf equationAt levelAt numberAt valueAt axisAt vecAt pointInto lineInto equationInto measureInto orNamed trying stateAt pointLine lineLine equationLine measureLine named measureAt distanceAt
+unfolding counts rest readOf countsAt countAt buildAt fold upTo turns hexOf nextHex furtherOf eatOf digitOf firstOf moreOf equationAt numberAt valueAt axisAt vecAt operandAt pointInto lineInto equationInto measureInto orNamed trying stateAt pointLine lineLine equationLine measureLine gaugedAt named measureAt
 more-after = refl
 
 -- 03 points
 needless-zero : readOf (counts (ascii "03") ++ rest ++ ascii "\n") .outcome ≡ Ends BadForm
-unfolding counts rest readOf countsAt countAt buildAt fold upTo turns hexOf nextHex furtherOf eatOf digitOf firstOf moreOf equationAt levelAt numberAt valueAt axisAt vecAt pointInto lineInto equationInto measureInto orNamed trying stateAt pointLine lineLine equationLine measureLine named measureAt distanceAt
+unfolding counts rest readOf countsAt countAt buildAt fold upTo turns hexOf nextHex furtherOf eatOf digitOf firstOf moreOf equationAt numberAt valueAt axisAt vecAt operandAt pointInto lineInto equationInto measureInto orNamed trying stateAt pointLine lineLine equationLine measureLine gaugedAt named measureAt
 needless-zero = refl
 
 -- 100000 points: the form goes first
 six-digits : readOf (counts (ascii "100000") ++ rest ++ ascii "\n") .outcome ≡ Ends BadForm
-unfolding counts rest readOf countsAt countAt buildAt fold upTo turns hexOf nextHex furtherOf eatOf digitOf firstOf moreOf equationAt levelAt numberAt valueAt axisAt vecAt pointInto lineInto equationInto measureInto orNamed trying stateAt pointLine lineLine equationLine measureLine named measureAt distanceAt
+unfolding counts rest readOf countsAt countAt buildAt fold upTo turns hexOf nextHex furtherOf eatOf digitOf firstOf moreOf equationAt numberAt valueAt axisAt vecAt operandAt pointInto lineInto equationInto measureInto orNamed trying stateAt pointLine lineLine equationLine measureLine gaugedAt named measureAt
 six-digits = refl
 
 -- 41 points, whatever follows, also nothing
 too-many-points : readOf (counts (ascii "41")) .outcome ≡ Ends TooMany
-unfolding counts rest readOf countsAt countAt buildAt fold upTo turns hexOf nextHex furtherOf eatOf digitOf firstOf moreOf equationAt levelAt numberAt valueAt axisAt vecAt pointInto lineInto equationInto measureInto orNamed trying stateAt pointLine lineLine equationLine measureLine named measureAt distanceAt
+unfolding counts rest readOf countsAt countAt buildAt fold upTo turns hexOf nextHex furtherOf eatOf digitOf firstOf moreOf equationAt numberAt valueAt axisAt vecAt operandAt pointInto lineInto equationInto measureInto orNamed trying stateAt pointLine lineLine equationLine measureLine gaugedAt named measureAt
 too-many-points = refl

@@ -3,9 +3,10 @@ use mathlib.Core.Bool.{cond}
 use mathlib.Core.List.{List}
 use Prim.Native.Nat.{ℕ}
 use Rattle.phrases.specs.Equations.{equationAt}
-use Rattle.phrases.specs.Fields.{numberAt, pointNo, vecAt}
+use Rattle.phrases.specs.Fields.{numberAt, vecAt}
 use Rattle.phrases.specs.Kinds.{wordAt}
 use Rattle.phrases.specs.Measures.{measureAt}
+use Rattle.sketch.specs.Made.{pointNo}
 use Rattle.sketch.specs.declared.State.{State}
 use Rattle.spelling.specs.Letters.{ascii}
 use Rattle.spelling.specs.Places.{eatOf}

@@ -6,7 +6,9 @@ use Rattle.phrases.proofs.equations.equation.Tie as tie
 
 returns : tie.Need-returns
 unfolding equationAt
-returns c = rw (c .of-kind .ensures, c .before .kind .ensures)
+returns c = rw (c .equation-of .ensures, c .before .before .before .fields .ensures, c .before .before .before .before .of-kind .ensures, c .before .before .before .before .before .kind .ensures)
 
 pub equation-spec : {M : Type 1} → statement M
-equation-spec = tie.close (tie.spec (λ c κs. search needs) (λ c κs. search needs) returns)
+equation-spec =
+    tie.close
+    (tie.spec (λ c κs. search needs) (λ c κs. search needs) (λ c κs. search needs) (λ c κs. search needs) returns)

@@ -4,7 +4,7 @@ use mathlib.Core.Path.{_≡_}
 use Prim.Native.Nat.{ℕ}
 use Rattle.spelling.specs.declared.Cursor.{Cursor}
 use Rattle.phrases.specs.Kinds.{orNamed, trying}
-use Rattle.phrases.specs.declared.Kind.{Kind}
+use Rattle.sketch.specs.declared.Kind.{Kind}
 use Rattle.phrases.specs.declared.KindRead.{KindRead}
 use borrow.Author.Needs.{needs}
 use Rattle.phrases.proofs.kinds.kind.Statement.{statement}
