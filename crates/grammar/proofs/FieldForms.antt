@@ -1,8 +1,9 @@
 -- Each field is read exactly as it is written, with the comma in front of it. Assumes nothing.
 use Prim.Native.Nat.{ℕ}
-use mathlib.Core.Bool.{Bool, true, false, cond}
+use mathlib.Core.Bool.{true, cond}
 use mathlib.Core.List.{List, [], _∷_, _++_, map}
 use mathlib.Core.Path.{_≡_, refl, sym, ap, ap₂, _∙_}
+use Rattle.loops.proofs.Picks.{of-cond}
 use Rattle.loops.specs.Turns.{fold}
 use Rattle.phrases.specs.Fields.{numberAt, valueAt, axisAt, sideAt, radAt, contactAt, operandAt, operandsAt, pastFields}
 use Rattle.phrases.specs.declared.OperandRead.{OperandRead}
@@ -37,10 +38,6 @@ unfolding valueAt fold
 value-reads = after-word (ascii ",") float-reads
 
 -- what a test picks, taken further
-pub cond-over : {K R : Type 0} (f : K → R) (b : Bool) (x y : K) → cond b (f x) (f y) ≡ f (cond b x y)
-cond-over f true x y = refl
-cond-over f false x y = refl
-
 -- Axes, signs and contacts: one of a few words.
 abbrev axisWord : Axis → List ℕ
 axisWord a = ascii "," ++ axisText a
@@ -54,7 +51,7 @@ axis-found axisY t h = refl
 
 axis-at : (s : List ℕ) (c : Cursor) → axisAt s c ≡ record { value = axisOf (readAxis s c); next = fold (eatOf s) c (axisWord (readAxis s c)) }
 unfolding axisAt pick
-axis-at s c = cond-over (λ a. record { value = axisOf a; next = fold (eatOf s) c (axisWord a) }) (fold (eatOf s) c (axisWord axisX) .ok) axisX axisY
+axis-at s c = of-cond (λ a. record { value = axisOf a; next = fold (eatOf s) c (axisWord a) }) (fold (eatOf s) c (axisWord axisX) .ok) axisX axisY
 
 abbrev signWord : Sign → List ℕ
 signWord k = ascii "," ++ signText k
@@ -68,7 +65,7 @@ side-found minus t h = refl
 
 side-at : (s : List ℕ) (c : Cursor) → sideAt s c ≡ record { value = signOf (readSide s c); next = fold (eatOf s) c (signWord (readSide s c)) }
 unfolding sideAt pick
-side-at s c = cond-over (λ k. record { value = signOf k; next = fold (eatOf s) c (signWord k) }) (fold (eatOf s) c (signWord plus) .ok) plus minus
+side-at s c = of-cond (λ k. record { value = signOf k; next = fold (eatOf s) c (signWord k) }) (fold (eatOf s) c (signWord plus) .ok) plus minus
 
 abbrev touchWord : Touch → List ℕ
 touchWord o = ascii "," ++ touchText o
@@ -88,7 +85,7 @@ contact-at s c =
     let o = fold (eatOf s) c (touchWord outside) .ok in
     let p = fold (eatOf s) c (signWord plus) .ok in
     ap (λ r. cond {A = OperandRead} o (f outside) (record { operand = touching (Contact.Inside (r .value)); next = r .next })) (side-at s c)
-    ∙ cond-over f o outside (inside (cond p plus minus)) ∙ ap (λ r. f (cond o outside r)) (sym (cond-over inside p plus minus))
+    ∙ of-cond f o outside (inside (cond p plus minus)) ∙ ap (λ r. f (cond o outside r)) (sym (of-cond inside p plus minus))
 
 -- A radius: a word, and then a point or a float.
 pub data By : Type 0 where
@@ -137,7 +134,7 @@ rad-at : (s : List ℕ) (c : Cursor) → let k = pick byWord s c (number ∷ [])
     radAt s c ≡ record { operand = round (radOf (readRadius s c)); next = nextBy k s (fold (eatOf s) c (byWord k)) }
 unfolding radAt pick valueAt
 rad-at s c =
-    cond-over (λ k. record { operand = round (radOf (radiusOf k (readBy k s (fold (eatOf s) c (byWord k))))); next = nextBy k s (fold (eatOf s) c (byWord k)) })
+    of-cond (λ k. record { operand = round (radOf (radiusOf k (readBy k s (fold (eatOf s) c (byWord k))))); next = nextBy k s (fold (eatOf s) c (byWord k)) })
     (fold (eatOf s) c (byWord number) .ok) number float
 
 radius-reads : Reads (λ r. ascii "," ++ radiusText r) RadiusFits readRadius (λ s c. radAt s c .next) parted

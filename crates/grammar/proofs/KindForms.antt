@@ -5,6 +5,7 @@ use mathlib.Core.List.{List, [], _∷_, _++_}
 use mathlib.Core.Path.{_≡_, refl, ap, _∙_}
 use borrow.Author.Tests.{eqb-true}
 use lib.Dec.{eqb}
+use Rattle.loops.proofs.Picks.{of-cond}
 use Rattle.loops.specs.Turns.{fold}
 use Rattle.spelling.proofs.Forms.{Reads, parted, then-reads, as-reads, pick, pickText, pick-reads}
 use Rattle.spelling.proofs.Steps.{never, starts}
@@ -23,7 +24,7 @@ use Rattle.sketch.specs.declared.Kind.{Kind}
 use Rattle.grammar.specs.Job.{EquationItem, MeasureItem, EquationFits, MeasureFits}
 use Rattle.grammar.specs.Meaning.{activeOf, measuredOf}
 use Rattle.grammar.specs.Printed.{equationText, measureText}
-use Rattle.grammar.proofs.FieldForms.{readFields, operands-are, fields-part, fields-reads, cond-over}
+use Rattle.grammar.proofs.FieldForms.{readFields, operands-are, fields-part, fields-reads}
 
 -- all but the last of a row of kinds, and the last one
 abbrev front : Kind → List Kind → List Kind
@@ -141,7 +142,7 @@ module _ (s : List ℕ) (c : Cursor) where
   unfolding M.named pick
   named-is g l d other e =
       let b = fold (eatOf s) c (gaugeName g) .ok in
-      ap (λ r. cond b (gauged g) r) e ∙ cond-over gauged b g (pick gaugeName s c l d)
+      ap (λ r. cond b (gauged g) r) e ∙ of-cond gauged b g (pick gaugeName s c l d)
 
   measure-gauged : M.measureAt s c ≡ gauged (pick gaugeName s c gauges Gauge.Radius)
   unfolding M.measureAt pick

@@ -3,6 +3,7 @@ use Prim.Native.Nat.{ℕ}
 use mathlib.Core.Bool.{true, cond}
 use mathlib.Core.List.{List, [], _∷_, _++_, append-assoc}
 use mathlib.Core.Path.{_≡_, refl, ap, _∙_}
+use Rattle.loops.proofs.Picks.{of-cond}
 use Rattle.loops.specs.Turns.{fold}
 use Rattle.phrases.specs.Fields.{numberAt, valueAt, vecAt}
 use Rattle.spelling.proofs.FloatForm.{float-reads}
@@ -18,7 +19,7 @@ use Rattle.text.specs.declared.StateRead.{StateRead}
 use Rattle.grammar.specs.Job.{Place, Standing, free, kept, placed, PointItem, LineItem, EquationItem, MeasureItem, PlaceFits, StandingFits, PointFits, LineFits, EquationFits, MeasureFits}
 use Rattle.grammar.specs.Meaning.{vecOf, stateOf, pointOf, lineOf, activeOf, measuredOf}
 use Rattle.grammar.specs.Printed.{placeText, standingText, pointLineText, lineLineText, equationLineText, measureLineText}
-use Rattle.grammar.proofs.FieldForms.{cond-over, readValue, number-reads, value-reads}
+use Rattle.grammar.proofs.FieldForms.{readValue, number-reads, value-reads}
 use Rattle.grammar.proofs.KindForms.{readEquation, equation-is, equation-reads, readMeasure, measure-is, measure-reads}
 
 abbrev pub readPlace : List ℕ → Cursor → Place
@@ -102,7 +103,7 @@ state-at s c =
     let f : Word → StateRead = λ w. record { state = stateOf (standingOf w (readHeld w s (fold (eatOf s) c (standingWord w)))); next = nextHeld w s (fold (eatOf s) c (standingWord w)) } in
     let a = fold (eatOf s) c (standingWord aFree) .ok in
     let b = fold (eatOf s) c (standingWord aKept) .ok in
-    ap (λ r. cond a (f aFree) r) (cond-over f b aKept anAt) ∙ cond-over f a aFree (cond b aKept anAt)
+    ap (λ r. cond a (f aFree) r) (of-cond f b aKept anAt) ∙ of-cond f a aFree (cond b aKept anAt)
 
 standing-reads : Reads (λ k. ascii "," ++ standingText k) StandingFits readStanding (λ s c. stateAt s c .next) anything
 standing-reads =
