@@ -19,7 +19,7 @@ use Rattle.sketch.specs.declared.Line.{Line}
 use Rattle.solver.specs.Sums.{norm2Of}
 use Rattle.rounds.specs.Column.{column-is, values-long, rows-few}
 use Rattle.rounds.specs.Held.{Begun, startedFit, endedOf}
-use Rattle.rounds.specs.Problem.{rowCount, valuesAt, jacobianAt, problemOf, stateOf}
+use Rattle.rounds.specs.Problem.{rowCount, valuesAt, stateOf}
 use Rattle.rounds.specs.Promise.{saying, answerOf, outcomeOf, tooMany, tooShort, zeroed, Solves}
 use Rattle.rounds.specs.Solve.{Problem, Outcome, converged, failed, within, roundsOf, solveOf}
 use Rattle.rounds.specs.declared.Ended.{Ended}
@@ -30,7 +30,7 @@ use Rattle.rounds.proofs.Trials.{copied-whole}
 
 -- ---- converged at the start, nothing free, or the rounds
 
-module _ (P : Problem) (J : List Float → List Float) (x r : List Float) (own : r ≡ P .values x) (nf : ℕ) (long : length (P .free) ≡ nf) (w : Bool) (b : w ≡ within r) where
+module _ (P : Problem) (J : List Float → List Float) (x r : List Float) (own : r ≡ P .values x) (w : Bool) (b : w ≡ within r) where
   test : (v : Bool) → w ≡ v → within (P .values x) ≡ v
   test v h = ap within (sym own) ∙ sym b ∙ h
 
@@ -38,14 +38,14 @@ module _ (P : Problem) (J : List Float → List Float) (x r : List Float) (own :
   unfolding solveOf
   opened-within f c h e = rw (test true h, e)
 
-  pub opened-fixed : (f : Fit) (c : Float) → w ≡ false → nf ≡ 0 → f ≡ startedFit c → endedOf x (record { converged = false; fit = f }) ≡ solveOf P J x
+  pub opened-fixed : (f : Fit) (c : Float) → w ≡ false → length (P .free) ≡ 0 → f ≡ startedFit c → endedOf x (record { converged = false; fit = f }) ≡ solveOf P J x
   unfolding solveOf
-  opened-fixed f c h z e = rw (test false h, long, eq-eqb nf 0 z, e)
+  opened-fixed f c h z e = rw (test false h, eq-eqb (length (P .free)) 0 z, e)
 
-  pub opened-rounds : (f : Fit) (c : Float) (x′ : List Float) (d : Ended) → w ≡ false → (nf ≡ 0 → ⊥) → c ≡ norm2Of r → f ≡ startedFit c
+  pub opened-rounds : (f : Fit) (c : Float) (x′ : List Float) (d : Ended) → w ≡ false → (length (P .free) ≡ 0 → ⊥) → c ≡ norm2Of r → f ≡ startedFit c
       → endedOf x′ d ≡ roundsOf P J 200 (stateOf x r f) → endedOf x′ d ≡ solveOf P J x
   unfolding solveOf
-  opened-rounds f c x′ d h z ec ef q = rw (test false h, long, ne-eqb nf 0 z, ← own) (q ∙ rw (ef, ec))
+  opened-rounds f c x′ d h z ec ef q = rw (test false h, ne-eqb (length (P .free)) 0 z, ← own) (q ∙ rw (ef, ec))
 
 -- ---- the slices
 
@@ -72,10 +72,6 @@ table-fits m n h k = let t = table m n h k in record { fits = omega arith }
 
 pub fits-in : (m n k : ℕ) → m ≤ 80 → n ≤ 80 → 6400 ≤ k → m * n ≤ k
 fits-in m n k h l t = let p = table m n h l in omega arith
-
-pub counted-outcome : (es : List Active) (ls : List Line) (places columns chosen free : List ℕ) (x : List Float) (n : ℕ) (o : Outcome) → n ≡ rowCount es chosen
-    → o ≡ solveOf (problemOf es ls places chosen free n) (jacobianAt es ls places chosen columns (length free)) x → o ≡ outcomeOf es ls places columns chosen free x
-counted-outcome es ls places columns chosen free x n o e h = rw e at h
 
 -- ---- the public call
 

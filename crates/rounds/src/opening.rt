@@ -3,9 +3,8 @@ ghost use mathlib.Core.Path.{_≡_};
 ghost use Prim.Native.Nat.{_≤_, _*_};
 ghost use lib.ListN.{length};
 ghost use Rattle.rounds.specs.Held.{Shapes, Own, Begun, endedOf};
-ghost use Rattle.rounds.specs.Problem.{rowCount, jacobianAt, problemOf};
+ghost use Rattle.rounds.specs.Problem.{rowCount};
 ghost use Rattle.rounds.specs.Promise.{Solves, outcomeOf, zeroed, answerOf, saying};
-ghost use Rattle.rounds.specs.Solve.{solveOf};
 use crate::Ended;
 use crate::Ending;
 use crate::Fit;
@@ -27,16 +26,10 @@ fn opened(
     j: &mut [f64],
     a: &mut [f64],
     w: &mut [f64],
-    y: &mut [f64],
-    xn: &mut [f64],
-    rn: &mut [f64],
-    rows: usize,
-    nf: usize,
 ) -> Ended
-    requires { ⌜ Shapes equations (now chosen) rows nf (now free) (now j) (now a) (now x) (now r) (now w) (now y) (now xn) (now rn)
+    requires { ⌜ Shapes equations (now chosen) (now free) (now j) (now r) (now a) (now w) × (length (now x) ≤ 80)
         × Own equations lines (now places) (now chosen) (now x) (now r) ⌝ }
-    ensures { λ e. ⌜ endedOf (now (x .exit)) e
-        ≡ solveOf (problemOf equations lines (now (places .entry)) (now (chosen .entry)) (now (free .entry)) rows) (jacobianAt equations lines (now (places .entry)) (now (chosen .entry)) (now (columns .entry)) nf) (now (x .entry)) ⌝ }
+    ensures { λ e. ⌜ endedOf (now (x .exit)) e ≡ outcomeOf equations lines (now (places .entry)) (now (columns .entry)) (now (chosen .entry)) (now (free .entry)) (now (x .entry)) ⌝ }
 {
     if within(r) {
         return Ended {
@@ -44,7 +37,7 @@ fn opened(
             fit: Fit::start(0.0),
         };
     }
-    if nf == 0 {
+    if free.len() == 0 {
         return Ended {
             converged: false,
             fit: Fit::start(0.0),
@@ -63,11 +56,6 @@ fn opened(
         j,
         a,
         w,
-        y,
-        xn,
-        rn,
-        rows,
-        nf,
         start,
     )
 }
@@ -108,13 +96,8 @@ fn in_areas(
         × (now (c .exit) ≡ zeroed (rowCount equations (now (chosen .entry)) * rowCount equations (now (chosen .entry))) (now (c .entry))) ⌝ }
 {
     let mut r = [0.0; 80];
-    let mut y = [0.0; 80];
-    let mut xn = [0.0; 80];
-    let mut rn = [0.0; 80];
     let rows = first_values(equations, lines, chosen, places, x, &mut r);
-    let nf = free.len();
-    let n = x.len();
-    let size = rows * nf;
+    let size = rows * free.len();
     let square = rows * rows;
     let e = opened(
         equations,
@@ -128,11 +111,6 @@ fn in_areas(
         &mut a[..size],
         &mut b[..square],
         &mut c[..square],
-        &mut y[..rows],
-        &mut xn[..n],
-        &mut rn[..rows],
-        rows,
-        nf,
     );
     floats::clear(&mut a[..size]);
     floats::clear(&mut b[..square]);

@@ -1,14 +1,13 @@
 use Prim.Native.Nat.{ℕ, _*_, _≤_}
 use mathlib.Core.List.{List, _++_}
-use mathlib.Core.Path.{refl, sym, ap, _∙_}
-use native.Mathlib.Nat.{le-refl}
+use mathlib.Core.Path.{sym, ap, _∙_}
 use lib.Ieee.{Float}
-use lib.ListN.{length, drop, replicate}
+use lib.ListN.{length, drop}
 use lib.Seq.{length-front}
 use Rattle.floats.specs.Ops.{zero⁺}
 use Rattle.loops.specs.Parts.{front, still-fits, refilled}
 use Rattle.rounds.specs.Promise.{zeroed}
-use Rattle.rounds.proofs.Begins.{table-fits, fits-in, counted-outcome}
+use Rattle.rounds.proofs.Begins.{table-fits, fits-in}
 use borrow.Author.Needs.{needs}
 use Rattle.rounds.proofs.opening.in_areas.Statement.{statement}
 use Rattle.rounds.proofs.opening.in_areas.Tie as tie
@@ -48,7 +47,7 @@ module _ (k : tie.After-first-values) where
 -- once the fit has ended: the areas' heads are back
 module _ (o : tie.After-opened) where
   abbrev found : tie.After-first-values
-  found = o .before .before .before .before .before .before .before .before .before .before
+  found = o .before .before .before .before .before .before .before
 
   abbrev a-head : List Float
   a-head = o .opened .last .1 .1 .1 .1 .1 .1 .1 .1 .0
@@ -107,78 +106,60 @@ slice-relend-prefix-opened-3 c = in-c (c .before .before .before .before .before
 slice-aggregate-opened-4 : tie.Need-slice-aggregate-opened-4
 slice-aggregate-opened-4 c = let k = c .before .before .before .before .before .before in front (square k) (start k .args .c .now) (in-c k)
 
-array-borrow-prefix-y : tie.Need-array-borrow-prefix-y
-array-borrow-prefix-y c = few (c .before .before .before .before .before .before)
-
-slice-aggregate-opened-5 : tie.Need-slice-aggregate-opened-5
-slice-aggregate-opened-5 c = let k = c .before .before .before .before .before .before .before in front (rows k) (replicate 80 zero⁺) (few k)
-
-slice-aggregate-opened-6 : tie.Need-slice-aggregate-opened-6
-slice-aggregate-opened-6 c = let s = start (c .before .before .before .before .before .before .before .before) in front (length (s .args .x .now)) (replicate 80 zero⁺) (s .pre .2)
-
-array-borrow-prefix-rn : tie.Need-array-borrow-prefix-rn
-array-borrow-prefix-rn c = few (c .before .before .before .before .before .before .before .before)
-
-slice-aggregate-opened-7 : tie.Need-slice-aggregate-opened-7
-slice-aggregate-opened-7 c = let k = c .before .before .before .before .before .before .before .before .before in front (rows k) (replicate 80 zero⁺) (few k)
-
 opened-requires : tie.Need-opened-requires
 opened-requires c κs =
-    let k = c .before .before .before .before .before .before .before .before .before in
-    let s = start k in (
+    let k = c .before .before .before .before .before .before in
+    let s = start k in
+    let long = sym (front (rows k) (values k) (room k)) in (
       record {
         chosen-few = s .pre .0;
-        counted = k .first-values .ensures .counted;
-        few = few k;
+        counted = long ∙ k .first-values .ensures .counted;
+        few = rw long (few k);
         narrow = s .pre .1;
-        free-long = refl;
-        jacobian-long = sym (front (wide k) (s .args .a .now) (in-a k));
-        product-long = sym (front (square k) (s .args .b .now) (in-b k));
-        residuals-long = sym (front (rows k) (values k) (room k));
-        work-long = rw (← front (square k) (s .args .c .now) (in-c k)) (le-refl _);
-        answer-long = sym (front (rows k) (replicate 80 zero⁺) (few k));
-        trial-long = sym (front (length (s .args .x .now)) (replicate 80 zero⁺) (s .pre .2));
-        values-long = sym (front (rows k) (replicate 80 zero⁺) (few k));
+        jacobian-long = rw long (sym (front (wide k) (s .args .a .now) (in-a k)));
+        product-long = rw long (sym (front (square k) (s .args .b .now) (in-b k)));
+        work-long = rw long (sym (front (square k) (s .args .c .now) (in-c k)));
       },
+      s .pre .2,
       k .first-values .ensures .own,
     )
 
 slice-relend-prefix-clear : tie.Need-slice-relend-prefix-clear
-slice-relend-prefix-clear c = a-fits (c .before .before .before .before .before .before .before .before .before .before .before .before)
+slice-relend-prefix-clear c = a-fits (c .before .before .before .before .before .before .before .before .before)
 
 slice-aggregate-clear : tie.Need-slice-aggregate-clear
-slice-aggregate-clear c = let o = c .before .before .before .before .before .before .before .before .before .before .before .before .before in front (wide (found o)) (a-back o) (a-fits o)
+slice-aggregate-clear c = let o = c .before .before .before .before .before .before .before .before .before .before in front (wide (found o)) (a-back o) (a-fits o)
 
 slice-relend-prefix-clear-2 : tie.Need-slice-relend-prefix-clear-2
-slice-relend-prefix-clear-2 c = b-fits (c .before .before .before .before .before .before .before .before .before .before .before .before .before .before .before .before)
+slice-relend-prefix-clear-2 c = b-fits (c .before .before .before .before .before .before .before .before .before .before .before .before .before)
 
 slice-aggregate-clear-2 : tie.Need-slice-aggregate-clear-2
-slice-aggregate-clear-2 c = let o = c .before .before .before .before .before .before .before .before .before .before .before .before .before .before .before .before .before in front (square (found o)) (b-back o) (b-fits o)
+slice-aggregate-clear-2 c = let o = c .before .before .before .before .before .before .before .before .before .before .before .before .before .before in front (square (found o)) (b-back o) (b-fits o)
 
 slice-relend-prefix-clear-3 : tie.Need-slice-relend-prefix-clear-3
-slice-relend-prefix-clear-3 c = c-fits (c .before .before .before .before .before .before .before .before .before .before .before .before .before .before .before .before .before .before .before .before)
+slice-relend-prefix-clear-3 c = c-fits (c .before .before .before .before .before .before .before .before .before .before .before .before .before .before .before .before .before)
 
 slice-aggregate-clear-3 : tie.Need-slice-aggregate-clear-3
-slice-aggregate-clear-3 c = let o = c .before .before .before .before .before .before .before .before .before .before .before .before .before .before .before .before .before .before .before .before .before in front (square (found o)) (c-back o) (c-fits o)
+slice-aggregate-clear-3 c = let o = c .before .before .before .before .before .before .before .before .before .before .before .before .before .before .before .before .before .before in front (square (found o)) (c-back o) (c-fits o)
 
 same-length-2 : tie.Need-same-length-2
 same-length-2 c =
     let z = c .before .before .before .before .before .before .before .before .before .before in
-    let o = z .before .before .before .before .before .before .before .before .before .before .before .before .before .before in
+    let o = z .before .before .before .before .before .before .before .before .before .before .before in
     length-front (a-back o) (z .clear .last .0) (wide (found o)) (z .clear .kept .0)
     ∙ length-front (start (found o) .args .a .now) (a-head o) (wide (found o)) (o .opened .kept .1 .1 .1 .1 .1 .1 .1 .1 .0)
 
 same-length-3 : tie.Need-same-length-3
 same-length-3 c =
     let z = c .before .before .before .before .before .before in
-    let o = z .before .before .before .before .before .before .before .before .before .before .before .before .before .before .before .before .before .before in
+    let o = z .before .before .before .before .before .before .before .before .before .before .before .before .before .before .before in
     length-front (b-back o) (z .clear2 .last .0) (square (found o)) (z .clear2 .kept .0)
     ∙ length-front (start (found o) .args .b .now) (b-head o) (square (found o)) (o .opened .kept .1 .1 .1 .1 .1 .1 .1 .1 .1 .0)
 
 same-length-4 : tie.Need-same-length-4
 same-length-4 c =
     let z = c .before .before in
-    let o = z .before .before .before .before .before .before .before .before .before .before .before .before .before .before .before .before .before .before .before .before .before .before in
+    let o = z .before .before .before .before .before .before .before .before .before .before .before .before .before .before .before .before .before .before .before in
     length-front (c-back o) (z .clear3 .last .0) (square (found o)) (z .clear3 .kept .0)
     ∙ length-front (start (found o) .args .c .now) (c-head o) (square (found o)) (o .opened .kept .1 .1 .1 .1 .1 .1 .1 .1 .1 .1 .0)
 
@@ -187,11 +168,11 @@ returns c =
     let w = c .before .before in
     let v = w .before .before .before .before in
     let u = v .before .before .before .before in
-    let o = u .before .before .before .before .before .before .before .before .before .before .before .before .before .before in
+    let o = u .before .before .before .before .before .before .before .before .before .before .before in
     let k = found o in
     let s = start k in
     let e = k .first-values .ensures .counted in (
-      counted-outcome (s .args .equations) (s .args .lines) (s .args .places .now) (s .args .columns .now) (s .args .chosen .now) (s .args .free .now) (s .args .x .now) (rows k) _ e (o .opened .ensures),
+      o .opened .ensures,
       refilled zero⁺ (wide k) (s .args .a .now) (a-head o) (u .clear .last .0) (in-a k) (o .opened .kept .1 .1 .1 .1 .1 .1 .1 .1 .0) (u .clear .ensures)
           ∙ ap (λ m. zeroed (m * length (s .args .free .now)) (s .args .a .now)) e,
       refilled zero⁺ (square k) (s .args .b .now) (b-head o) (v .clear2 .last .0) (in-b k) (o .opened .kept .1 .1 .1 .1 .1 .1 .1 .1 .1 .0) (v .clear2 .ensures)
@@ -216,12 +197,6 @@ in-areas-spec =
     slice-aggregate-opened-3
     slice-relend-prefix-opened-3
     slice-aggregate-opened-4
-    array-borrow-prefix-y
-    slice-aggregate-opened-5
-    (λ c. search needs)
-    slice-aggregate-opened-6
-    array-borrow-prefix-rn
-    slice-aggregate-opened-7
     opened-requires
     slice-relend-prefix-clear
     slice-aggregate-clear
