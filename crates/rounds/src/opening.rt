@@ -1,16 +1,19 @@
 // How a fit begins: converged at its start, nothing free, or the rounds; and the public call.
 ghost use mathlib.Core.Path.{_≡_};
-ghost use Prim.Native.Nat.{_≤_, _*_};
+ghost use Prim.Native.Nat.{_≤_};
 ghost use lib.ListN.{length};
+ghost use Rattle.members.specs.Lists.{numbersOf};
+ghost use Rattle.members.specs.Movable.{indicesOf};
 ghost use Rattle.rounds.specs.Held.{Shapes, Own, Begun, endedOf};
-ghost use Rattle.rounds.specs.Problem.{rowCount};
-ghost use Rattle.rounds.specs.Promise.{Solves, outcomeOf, zeroed, answerOf, saying};
+ghost use Rattle.rounds.specs.Promise.{Solves, Leaves, outcomeOf, answerOf, saying};
 use crate::Ended;
 use crate::Ending;
 use crate::Fit;
+use crate::Posed;
 use crate::Solved;
 use crate::round::all_rounds;
 use crate::round::within;
+use loops::smaller;
 use sketch::Active;
 use sketch::Line;
 
@@ -75,37 +78,34 @@ fn first_values(
     rows::residuals(equations, lines, chosen, places, x, r)
 }
 
-// The Jacobian lies in a, the product in b and its working copy in c; what they held there is +0.0 afterwards.
-fn in_areas(
-    equations: [Active; 40],
-    lines: [Line; 40],
-    chosen: &[usize],
-    places: &[u8],
-    columns: &[u8],
-    free: &[usize],
-    x: &mut [f64],
-    a: &mut [f64],
-    b: &mut [f64],
-    c: &mut [f64],
-) -> Ended
-    requires { ⌜ (length (now chosen) ≤ 40) × (length (now free) ≤ 80) × (length (now x) ≤ 80)
-        × (6400 ≤ length (now a)) × (6400 ≤ length (now b)) × (6400 ≤ length (now c)) ⌝ }
-    ensures { λ e. ⌜ (endedOf (now (x .exit)) e ≡ outcomeOf equations lines (now (places .entry)) (now (columns .entry)) (now (chosen .entry)) (now (free .entry)) (now (x .entry)))
-        × (now (a .exit) ≡ zeroed (rowCount equations (now (chosen .entry)) * length (now (free .entry))) (now (a .entry)))
-        × (now (b .exit) ≡ zeroed (rowCount equations (now (chosen .entry)) * rowCount equations (now (chosen .entry))) (now (b .entry)))
-        × (now (c .exit) ≡ zeroed (rowCount equations (now (chosen .entry)) * rowCount equations (now (chosen .entry))) (now (c .entry))) ⌝ }
+// The Jacobian lies in a, the product in b and its working copy in c; what they held there is +0.0 afterwards. The problem's tables are
+// lent from here, once a fit: a function that lends a table of a value works on a copy of it.
+fn in_areas(p: Posed, x: &mut [f64], a: &mut [f64], b: &mut [f64], c: &mut [f64]) -> Ended
+    requires { ⌜ (length (now x) ≤ 80) × (6400 ≤ length (now a)) × (6400 ≤ length (now b)) × (6400 ≤ length (now c)) ⌝ }
+    ensures { λ e. ⌜ Leaves (p .equations) (p .lines) (p .places) (p .columns) (numbersOf (p .chosen .0)) (indicesOf (p .free)) (now (x .entry)) (now (a .entry)) (now (b .entry)) (now (c .entry))
+        (now (x .exit)) (now (a .exit)) (now (b .exit)) (now (c .exit)) e ⌝ }
 {
+    let equations = p.equations;
+    let lines = p.lines;
+    let listed = p.chosen.0;
+    let items = listed.items;
+    let k = smaller(listed.count, 40);
+    let places = p.places;
+    let columns = p.columns;
+    let free = p.free;
+    let coordinates = free.items;
+    let nf = smaller(free.count, 80);
     let mut r = [0.0; 80];
-    let rows = first_values(equations, lines, chosen, places, x, &mut r);
-    let size = rows * free.len();
+    let rows = first_values(equations, lines, &items[..k], &places, x, &mut r);
+    let size = rows * nf;
     let square = rows * rows;
     let e = opened(
         equations,
         lines,
-        chosen,
-        places,
-        columns,
-        free,
+        &items[..k],
+        &places,
+        &columns,
+        &coordinates[..nf],
         x,
         &mut r[..rows],
         &mut a[..size],
@@ -148,22 +148,11 @@ fn refused(ending: Ending) -> Solved
 }
 
 // Fits the coordinates x to the chosen equations by moving the free ones. Where the fit fails, x is as it was.
-pub fn solve(
-    equations: [Active; 40],
-    lines: [Line; 40],
-    chosen: &[usize],
-    places: &[u8],
-    columns: &[u8],
-    free: &[usize],
-    x: &mut [f64],
-    a: &mut [f64],
-    b: &mut [f64],
-    c: &mut [f64],
-) -> Solved
-    ensures { λ s. ⌜ Solves equations lines (now (places .entry)) (now (columns .entry)) (now (chosen .entry)) (now (free .entry)) (now (x .entry)) (now (a .entry)) (now (b .entry)) (now (c .entry))
+pub fn solve(p: Posed, x: &mut [f64], a: &mut [f64], b: &mut [f64], c: &mut [f64]) -> Solved
+    ensures { λ s. ⌜ Solves (p .equations) (p .lines) (p .places) (p .columns) (numbersOf (p .chosen .0)) (indicesOf (p .free)) (now (x .entry)) (now (a .entry)) (now (b .entry)) (now (c .entry))
         (now (x .exit)) (now (a .exit)) (now (b .exit)) (now (c .exit)) s ⌝ }
 {
-    if (40 < chosen.len()) | (80 < free.len()) | (80 < x.len()) {
+    if 80 < x.len() {
         return refused(Ending::TooMany);
     }
     if (a.len() < 6400) | (b.len() < 6400) | (c.len() < 6400) {
@@ -172,18 +161,7 @@ pub fn solve(
     let n = x.len();
     let mut here = [0.0; 80];
     floats::copy(x, &mut here[..n]);
-    let e = in_areas(
-        equations,
-        lines,
-        chosen,
-        places,
-        columns,
-        free,
-        &mut here[..n],
-        a,
-        b,
-        c,
-    );
+    let e = in_areas(p, &mut here[..n], a, b, c);
     if !e.converged {
         return answer(e);
     }
