@@ -9,7 +9,6 @@ use lib.Ieee.{Float}
 use lib.ListN.{length, take, drop, replicate, length-take, length-map, length-replicate}
 use lib.Seq.{take-at, drop-at}
 use Rattle.floats.specs.Ops.{zero⁺}
-use Rattle.groups.proofs.Counted.{taken}
 use Rattle.loops.specs.Numbers.{refused, tooShort}
 use Rattle.members.specs.Lists.{numbersOf}
 use Rattle.members.specs.Movable.{pointsAt, indicesOf}
@@ -76,15 +75,13 @@ module _ (es : List Active) (ls : List Line) (places columns chosen free : List 
       pick true ea ex = et ∙ rw ea
       pick false ea ex = shown-by n (outcomeOf es ls places columns chosen free x) s x x′ rest t ea ex er et
 
-module _ (b : Build) (f : Frame) (chosen : Equations) (p q r p′ q′ r′ x x′ : List Float) (k₁ k₂ k₃ : ℕ) (s : Solved) (t : Fitted) where
-  pub fit-is : length (f .points .0 .items) ≡ 40 → length (chosen .0 .items) ≡ 40 → length (f .free .items) ≡ 80 → k₁ ≡ min (f .points .0 .count) 40 → k₂ ≡ min (chosen .0 .count) 40
-      → k₃ ≡ min (f .free .count) 80 → x ≡ scale.startIn (b .centre) (b .size) (pointsAt (b .points) (numbersOf (f .points .0))) (replicate 80 zero⁺)
-      → Solves (b .equations) (b .lines) (f .places) (f .columns) (take k₂ (chosen .0 .items)) (take k₃ (f .free .items)) (take (2 * k₁) x) p q r x′ p′ q′ r′ s
+module _ (b : Build) (f : Frame) (chosen : Equations) (p q r p′ q′ r′ x x′ : List Float) (k₁ : ℕ) (s : Solved) (t : Fitted) where
+  pub fit-is : length (f .points .0 .items) ≡ 40 → length (chosen .0 .items) ≡ 40 → length (f .free .items) ≡ 80 → k₁ ≡ min (f .points .0 .count) 40
+      → x ≡ scale.startIn (b .centre) (b .size) (pointsAt (b .points) (numbersOf (f .points .0))) (replicate 80 zero⁺)
+      → Solves (b .equations) (b .lines) (f .places) (f .columns) (numbersOf (chosen .0)) (indicesOf (f .free)) (take (2 * k₁) x) p q r x′ p′ q′ r′ s
       → t ≡ shownOf s (x′ ++ drop (2 * k₁) x) → FitsChosen b f chosen p q r p′ q′ r′ t
-  fit-is l n m e₁ e₂ e₃ ex es et =
+  fit-is l n m e₁ ex es et =
       let ps = pointsAt (b .points) (numbersOf (f .points .0)) in
-      let c : take k₂ (chosen .0 .items) ≡ numbersOf (chosen .0) = taken (chosen .0 .items) (chosen .0 .count) k₂ 40 n e₂ in
-      let d : take k₃ (f .free .items) ≡ indicesOf (f .free) = taken (f .free .items) (f .free .count) k₃ 80 m e₃ in
       let few : length (numbersOf (chosen .0)) ≤ 40 = rw length-take (omega (arith, n)) in
       let narrow : length (indicesOf (f .free)) ≤ 80 = rw length-take (omega (arith, m)) in
       let count : length ps ≡ k₁ = length-map (numbersOf (f .points .0)) _ ∙ length-take (f .points .0 .count) (f .points .0 .items) ∙ rw l (sym e₁) in
@@ -96,7 +93,7 @@ module _ (b : Build) (f : Frame) (chosen : Equations) (p q r p′ q′ r′ x x�
       let tail : drop (2 * k₁) x ≡ replicate (80 - length (startIn b f)) zero⁺ =
       ap (drop (2 * k₁)) begins ∙ drop-at (startIn b f) (drop (2 * length ps) (replicate 80 zero⁺)) (2 * k₁) size ∙ fewer 80 (2 * length ps) zero⁺ ∙ rw same in
       let long : length (startIn b f) ≤ 80 = rw size (omega (arith, e₁)) in
-      let solved : Solves (b .equations) (b .lines) (f .places) (f .columns) (numbersOf (chosen .0)) (indicesOf (f .free)) (startIn b f) p q r x′ p′ q′ r′ s = rw (c, d, head) at es in
+      let solved : Solves (b .equations) (b .lines) (f .places) (f .columns) (numbersOf (chosen .0)) (indicesOf (f .free)) (startIn b f) p q r x′ p′ q′ r′ s = rw head at es in
       carried solved few narrow long tail et
     where
       carried : Solves (b .equations) (b .lines) (f .places) (f .columns) (numbersOf (chosen .0)) (indicesOf (f .free)) (startIn b f) p q r x′ p′ q′ r′ s

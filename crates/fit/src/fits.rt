@@ -8,6 +8,7 @@ use crate::Frame;
 use loops::smaller;
 use members::Equations;
 use rounds::FitEnding;
+use rounds::Posed;
 use rounds::Solved;
 use sketch::Build;
 
@@ -47,30 +48,23 @@ pub fn fit(
     let points = b.points;
     let centre = b.centre;
     let listed = f.points;
-    let free = f.free;
-    let places = f.places;
-    let columns = f.columns;
     let mut x = [0.0; 80];
     members::start(points, centre, b.size, listed, &mut x);
     let n = 2 * smaller(listed.0.count, 40);
-    let items = chosen.0.items;
-    let k = smaller(chosen.0.count, 40);
-    let coordinates = free.items;
-    let nf = smaller(free.count, 80);
     let equations = b.equations;
     let lines = b.lines;
-    let s = rounds::solve(
+    let places = f.places;
+    let columns = f.columns;
+    let free = f.free;
+    let posed = Posed {
         equations,
         lines,
-        &items[..k],
-        &places,
-        &columns,
-        &coordinates[..nf],
-        &mut x[..n],
-        p,
-        q,
-        r,
-    );
+        chosen,
+        places,
+        columns,
+        free,
+    };
+    let s = rounds::solve(posed, &mut x[..n], p, q, r);
     shown(s, x)
 }
 

@@ -19,7 +19,7 @@ use Rattle.slopes.specs.Dense.{jacobianOf}
 use Rattle.sketch.specs.declared.Active.{Active}
 use Rattle.sketch.specs.declared.Line.{Line}
 use Rattle.rounds.proofs.Column.{table-is}
-use Rattle.rounds.specs.Held.{begunFit, largestIn, polishedFit, stepBy, stepOf, endedOf}
+use Rattle.rounds.specs.Held.{begunFit, largestIn, polishedFit, stepBy, stepOf, triesAt, endedOf}
 use Rattle.rounds.proofs.Holding.{round-own}
 use Rattle.rounds.specs.Problem.{rowCount, jacobianAt, stateOf, triedOf}
 use Rattle.rounds.specs.Solve.{Problem, State, Trial, Tried, Outcome, converged, within, judged, trialOf, tryOf, triesOf, orNext, better, taken, harder, begun, roundOf, roundsOf, ended, decided}
@@ -53,11 +53,10 @@ diagonal-found rows a t m few k e h =
     h ∙ ap largestIn (e .answer) ∙ rw (le-ltb 80 rows few, le-leb (rows * rows) (length a) q)
 
 module _ (P : Problem) (J : List Float → List Float) where
-  pub round-is : (nf : ℕ) (x r x′ r′ j a : List Float) (m : Float) (f g : Fit) (t : Attempted) → length (P .free) ≡ nf → r ≡ P .values x → j ≡ J x
-      → a ≡ productOf (P .rows) nf j → m ≡ diagMaxOf (P .rows) a → g ≡ begunFit f → triedOf x′ r′ t ≡ triesOf P j a m 12 (stateOf x r g)
+  pub round-is : (x r x′ r′ j : List Float) (f : Fit) (t : Attempted) → r ≡ P .values x → j ≡ J x → triedOf x′ r′ t ≡ triesAt P j (stateOf x r (begunFit f))
       → triedOf x′ r′ t ≡ roundOf P J (stateOf x r f)
   unfolding roundOf
-  round-is nf x r x′ r′ j a m f g t n own ej ea em eg e = rw (n, ← ej, ← ea, ← em, ← own) (e ∙ rw eg)
+  round-is x r x′ r′ j f t own ej e = rw (← ej, ← own) e
 
 -- ---- how far a round's counts go
 

@@ -1,11 +1,11 @@
 -- From what the calls of a fit's beginning promise to the definition. Assumes nothing.
-use Prim.Native.Nat.{ℕ, _*_, _≤_}
+use Prim.Native.Nat.{ℕ, _*_, _≤_, _<_}
 use mathlib.Core.Bool.{Bool, true, false, _||_}
 use mathlib.Core.List.{List, _++_}
 use mathlib.Core.Path.{_≡_, refl, sym, ap, _∙_}
 use native.Mathlib.Nat.{mul-le-mul}
 use native.Mathlib.Omega.{arith}
-use borrow.Author.Tests.{ltb-false, eq-eqb, ne-eqb}
+use borrow.Author.Tests.{ltb-false, lt-ltb, le-ltb, eq-eqb, ne-eqb}
 use lib.Dec.{ltb}
 use lib.Ieee.{Float}
 use lib.ListN.{length, take, drop}
@@ -19,8 +19,8 @@ use Rattle.sketch.specs.declared.Line.{Line}
 use Rattle.solver.specs.Sums.{norm2Of}
 use Rattle.rounds.proofs.Column.{column-is, values-long, rows-few}
 use Rattle.rounds.specs.Held.{Begun, startedFit, endedOf}
-use Rattle.rounds.specs.Problem.{rowCount, valuesAt, jacobianAt, problemOf, stateOf}
-use Rattle.rounds.specs.Promise.{saying, answerOf, outcomeOf, tooMany, tooShort, zeroed, Solves}
+use Rattle.rounds.specs.Problem.{rowCount, valuesAt, stateOf}
+use Rattle.rounds.specs.Promise.{saying, answerOf, outcomeOf, tooMany, tooShort, Solves, Leaves}
 use Rattle.rounds.specs.Solve.{Problem, Outcome, converged, failed, within, roundsOf, solveOf}
 use Rattle.rounds.specs.declared.Ended.{Ended}
 use Rattle.rounds.specs.declared.FitEnding.the-variants.{TooMany, TooShort}
@@ -30,7 +30,7 @@ use Rattle.rounds.proofs.Trials.{copied-whole}
 
 -- ---- converged at the start, nothing free, or the rounds
 
-module _ (P : Problem) (J : List Float → List Float) (x r : List Float) (own : r ≡ P .values x) (nf : ℕ) (long : length (P .free) ≡ nf) (w : Bool) (b : w ≡ within r) where
+module _ (P : Problem) (J : List Float → List Float) (x r : List Float) (own : r ≡ P .values x) (w : Bool) (b : w ≡ within r) where
   test : (v : Bool) → w ≡ v → within (P .values x) ≡ v
   test v h = ap within (sym own) ∙ sym b ∙ h
 
@@ -38,14 +38,14 @@ module _ (P : Problem) (J : List Float → List Float) (x r : List Float) (own :
   unfolding solveOf
   opened-within f c h e = rw (test true h, e)
 
-  pub opened-fixed : (f : Fit) (c : Float) → w ≡ false → nf ≡ 0 → f ≡ startedFit c → endedOf x (record { converged = false; fit = f }) ≡ solveOf P J x
+  pub opened-fixed : (f : Fit) (c : Float) → w ≡ false → length (P .free) ≡ 0 → f ≡ startedFit c → endedOf x (record { converged = false; fit = f }) ≡ solveOf P J x
   unfolding solveOf
-  opened-fixed f c h z e = rw (test false h, long, eq-eqb nf 0 z, e)
+  opened-fixed f c h z e = rw (test false h, eq-eqb (length (P .free)) 0 z, e)
 
-  pub opened-rounds : (f : Fit) (c : Float) (x′ : List Float) (d : Ended) → w ≡ false → (nf ≡ 0 → ⊥) → c ≡ norm2Of r → f ≡ startedFit c
+  pub opened-rounds : (f : Fit) (c : Float) (x′ : List Float) (d : Ended) → w ≡ false → (length (P .free) ≡ 0 → ⊥) → c ≡ norm2Of r → f ≡ startedFit c
       → endedOf x′ d ≡ roundsOf P J 200 (stateOf x r f) → endedOf x′ d ≡ solveOf P J x
   unfolding solveOf
-  opened-rounds f c x′ d h z ec ef q = rw (test false h, long, ne-eqb nf 0 z, ← own) (q ∙ rw (ef, ec))
+  opened-rounds f c x′ d h z ec ef q = rw (test false h, ne-eqb (length (P .free)) 0 z, ← own) (q ∙ rw (ef, ec))
 
 -- ---- the slices
 
@@ -73,9 +73,10 @@ table-fits m n h k = let t = table m n h k in record { fits = omega arith }
 pub fits-in : (m n k : ℕ) → m ≤ 80 → n ≤ 80 → 6400 ≤ k → m * n ≤ k
 fits-in m n k h l t = let p = table m n h l in omega arith
 
-pub counted-outcome : (es : List Active) (ls : List Line) (places columns chosen free : List ℕ) (x : List Float) (n : ℕ) (o : Outcome) → n ≡ rowCount es chosen
-    → o ≡ solveOf (problemOf es ls places chosen free n) (jacobianAt es ls places chosen columns (length free)) x → o ≡ outcomeOf es ls places columns chosen free x
-counted-outcome es ls places columns chosen free x n o e h = rw e at h
+-- what a fit leaves, by the lists that its slices hold
+pub left-of : (es : List Active) (ls : List Line) (places columns chosen chosen′ free free′ : List ℕ) (x a b c x′ a′ b′ c′ : List Float) (e : Ended) → chosen ≡ chosen′ → free ≡ free′
+    → Leaves es ls places columns chosen free x a b c x′ a′ b′ c′ e → Leaves es ls places columns chosen′ free′ x a b c x′ a′ b′ c′ e
+left-of es ls places columns chosen chosen′ free free′ x a b c x′ a′ b′ c′ e h k l = rw (h, k) at l
 
 -- ---- the public call
 
@@ -86,14 +87,6 @@ or-first true b h = h
 or-second : (a b : Bool) → (a || b) ≡ false → b ≡ false
 or-second false b h = h
 or-second true b h = cc
-
-pub none-many : (chosen free x : ℕ) → (ltb 40 chosen || ltb 80 free || ltb 80 x) ≡ false → (chosen ≤ 40) × (free ≤ 80) × (x ≤ 80)
-none-many chosen free x h =
-    let p = or-first (ltb 40 chosen || ltb 80 free) (ltb 80 x) h in (
-      ltb-false 40 chosen (or-first (ltb 40 chosen) (ltb 80 free) p),
-      ltb-false 80 free (or-second (ltb 40 chosen) (ltb 80 free) p),
-      ltb-false 80 x (or-second (ltb 40 chosen || ltb 80 free) (ltb 80 x) h),
-    )
 
 pub none-short : (a b c : ℕ) → (ltb a 6400 || ltb b 6400 || ltb c 6400) ≡ false → (6400 ≤ a) × (6400 ≤ b) × (6400 ≤ c)
 none-short a b c h =
@@ -114,6 +107,13 @@ pub copied-back : (y x rest x′ : List Float) → length y ≡ length x → x�
 copied-back y x rest x′ l e = copied-whole y x x′ (sym l) (rw (take-at y rest (length x) l) at e)
 
 module _ (es : List Active) (ls : List Line) (places columns chosen free : List ℕ) (x a b c : List Float) where
+  module _ (few : length chosen ≤ 40) (narrow : length free ≤ 80) where
+    pub any-many : 80 < length x → tooMany es ls places columns chosen free x a b c ≡ true
+    any-many h = rw (le-ltb 40 (length chosen) few, le-ltb 80 (length free) narrow, lt-ltb 80 (length x) h)
+
+    pub none-many : length x ≤ 80 → tooMany es ls places columns chosen free x a b c ≡ false
+    none-many h = rw (le-ltb 40 (length chosen) few, le-ltb 80 (length free) narrow, le-ltb 80 (length x) h)
+
   pub refused-many : (s : Solved) → tooMany es ls places columns chosen free x a b c ≡ true → s ≡ saying TooMany 0 0
       → Solves es ls places columns chosen free x a b c x a b c s
   refused-many s h e = record { answer = rw (h, e); meaning = rw (e, h); coordinates = rw h; jacobian = rw h; product = rw h; copy = rw h }
@@ -124,17 +124,16 @@ module _ (es : List Active) (ls : List Line) (places columns chosen free : List 
     refused-short s h e = record { answer = rw (m, h, e); meaning = rw (e, m, h); coordinates = rw (m, h); jacobian = rw (m, h); product = rw (m, h); copy = rw (m, h) }
 
     module _ (n : tooShort es ls places columns chosen free x a b c ≡ false) (here here′ a′ b′ c′ : List Float) (e : Ended) (s : Solved) (begins : here ≡ x)
-        (o : endedOf here′ e ≡ outcomeOf es ls places columns chosen free here) (ea : a′ ≡ zeroed (rowCount es chosen * length free) a)
-        (eb : b′ ≡ zeroed (rowCount es chosen * rowCount es chosen) b) (ec : c′ ≡ zeroed (rowCount es chosen * rowCount es chosen) c) (t : s ≡ answerOf e) where
+        (l : Leaves es ls places columns chosen free here a b c here′ a′ b′ c′ e) (t : s ≡ answerOf e) where
       came : endedOf here′ e ≡ outcomeOf es ls places columns chosen free x
-      came = rw begins at o
+      came = rw begins at (l .outcome)
 
       pub done-failed : e .converged ≡ false → Solves es ls places columns chosen free x a b c x a′ b′ c′ s
       done-failed f =
           let g : failed (e .fit .iterations) (e .fit .tries) ≡ outcomeOf es ls places columns chosen free x = rw f at came in
-          record { answer = rw (m, n, ← g, t, f); meaning = rw (t, f, m, n, ← g); coordinates = rw (m, n, ← g); jacobian = rw (m, n, ea); product = rw (m, n, eb); copy = rw (m, n, ec) }
+          record { answer = rw (m, n, ← g, t, f); meaning = rw (t, f, m, n, ← g); coordinates = rw (m, n, ← g); jacobian = rw (m, n, l .jacobian); product = rw (m, n, l .product); copy = rw (m, n, l .copy) }
 
       pub done-converged : (x′ : List Float) → e .converged ≡ true → x′ ≡ here′ → Solves es ls places columns chosen free x a b c x′ a′ b′ c′ s
       done-converged x′ f ex =
           let g : converged here′ (e .fit .iterations) (e .fit .tries) ≡ outcomeOf es ls places columns chosen free x = rw f at came in
-          record { answer = rw (m, n, ← g, t, f); meaning = rw (t, f, m, n, ← g, ex); coordinates = rw (m, n, ← g, ex); jacobian = rw (m, n, ea); product = rw (m, n, eb); copy = rw (m, n, ec) }
+          record { answer = rw (m, n, ← g, t, f); meaning = rw (t, f, m, n, ← g, ex); coordinates = rw (m, n, ← g, ex); jacobian = rw (m, n, l .jacobian); product = rw (m, n, l .product); copy = rw (m, n, l .copy) }

@@ -19,7 +19,7 @@ use Rattle.solver.specs.Steps.{solutionOf}
 use Rattle.solver.specs.declared.Elimination.{Elimination}
 use Rattle.solver.specs.declared.Elimination.the-variants.{TooMany, TooShort}
 use Rattle.rounds.specs.Held.{isSolved, trialMade}
-use Rattle.rounds.specs.Solve.{Problem, Trial, trialOf}
+use Rattle.rounds.specs.Solve.{Problem, trialAt, trialOf}
 
 -- a list copied over one of its own length
 pub copied-whole : (from to z : List Float) → length to ≡ length from → z ≡ copiedOf from to → z ≡ from
@@ -71,28 +71,30 @@ eliminated-is n mu m a r w y w₁ y₁ w₂ y₂ d e ok few ha hr hw hy h kept c
     ∙ ap (λ v. solutionOf n (take (n * n) w₁) v) (take-all n y₁ full ∙ same)
     ∙ ap (λ v. solutionOf n v r) head
 
-module _ (P : Problem) (nf : ℕ) (j a x r y : List Float) (m mu : Float) (ok : Bool)
-    (e : tried ok y ≡ solutionOf (P .rows) (dampedOf (P .rows) mu m (take (P .rows * P .rows) a)) r) (whole : length a ≡ P .rows * P .rows) where
-  product-whole : take (P .rows * P .rows) a ≡ a
-  product-whole = let l : length a ≤ P .rows * P .rows = omega arith in take-all (P .rows * P .rows) a l
+module _ (P : Problem) (j a x r y : List Float) (m mu : Float) (ok : Bool) (n : ℕ) (count : n ≡ P .rows)
+    (e : tried ok y ≡ solutionOf n (dampedOf n mu m (take (n * n) a)) r) (whole : length a ≡ n * n) where
+  product-whole : take (n * n) a ≡ a
+  product-whole = let l : length a ≤ n * n = omega arith in take-all (n * n) a l
 
   at-product : tried ok y ≡ solutionOf (P .rows) (dampedOf (P .rows) mu m a) r
-  at-product = rw product-whole at e
+  at-product = rw (product-whole, count) at e
 
-  pub no-trial : (t : Trial) → not ok ≡ true → tried false t ≡ trialOf P j a m mu x r
+  pub no-trial : not ok ≡ true → stop ≡ trialOf P j a m mu x r
   unfolding trialOf
-  no-trial t h = let s : tried false y ≡ solutionOf (P .rows) (dampedOf (P .rows) mu m a) r = rw (not-true ok h) at at-product in rw (← s)
+  no-trial h = let s : tried false y ≡ solutionOf (P .rows) (dampedOf (P .rows) mu m a) r = rw (not-true ok h) at at-product in rw (← s)
 
-  pub trial-made : (free : List ℕ) (xn xn₁ xn₂ rn : List Float) (o : Made) → P .rows ≤ 80 → nf ≤ 80 → not ok ≡ false → free ≡ P .free → length (P .free) ≡ nf → length j ≡ P .rows * nf → length y ≡ P .rows
-      → length xn ≡ length x → xn₁ ≡ copiedOf x xn → Moves (P .rows) nf j y free xn₁ xn₂ o → rn ≡ P .values xn₂
-      → tried true (trialMade xn₂ rn) ≡ trialOf P j a m mu x r
+  pub a-trial : not ok ≡ false → go (trialAt P (movedOf (P .rows) (length (P .free)) j y (P .free) x)) ≡ trialOf P j a m mu x r
   unfolding trialOf
-  trial-made free xn xn₁ xn₂ rn o few narrow h f n l k q c d v =
-      let s : tried true y ≡ solutionOf (P .rows) (dampedOf (P .rows) mu m a) r = rw (not-false ok h) at at-product in
-      let same : xn₁ ≡ x = copied-whole x xn xn₁ q c in
-      let lj : P .rows * nf ≤ length j = omega arith in
-      let ly : P .rows ≤ length y = omega arith in
-      let lf : nf ≤ length free = rw f (omega arith) in
-      let moves : xn₂ ≡ movedOf (P .rows) nf j y free xn₁ =
-      d .slice ∙ rw (le-ltb 80 (P .rows) few, le-ltb 80 nf narrow, le-leb (P .rows * nf) (length j) lj, le-leb (P .rows) (length y) ly, le-leb nf (length free) lf) in
-      rw (← s, v, moves, same, f, n)
+  a-trial h = let s : tried true y ≡ solutionOf (P .rows) (dampedOf (P .rows) mu m a) r = rw (not-false ok h) at at-product in rw (← s)
+
+-- what the step y leads to
+pub trial-made : (P : Problem) (j x y xn xn₁ xn₂ rn : List Float) (n : ℕ) (o : Made) → n ≡ P .rows → n ≤ 80 → length (P .free) ≤ 80 → length j ≡ n * length (P .free) → length y ≡ n
+    → length xn ≡ length x → xn₁ ≡ copiedOf x xn → Moves n (length (P .free)) j y (P .free) xn₁ xn₂ o → rn ≡ P .values xn₂
+    → trialMade xn₂ rn ≡ trialAt P (movedOf (P .rows) (length (P .free)) j y (P .free) x)
+trial-made P j x y xn xn₁ xn₂ rn n o count few narrow l k q c d v =
+    let same : xn₁ ≡ x = copied-whole x xn xn₁ q c in
+    let lj : n * length (P .free) ≤ length j = rw l (le-refl _) in
+    let ly : n ≤ length y = rw k (le-refl _) in
+    let moves : xn₂ ≡ movedOf n (length (P .free)) j y (P .free) xn₁ =
+    d .slice ∙ rw (le-ltb 80 n few, le-ltb 80 (length (P .free)) narrow, le-leb (n * length (P .free)) (length j) lj, le-leb n (length y) ly, le-leb (length (P .free)) (length (P .free)) (le-refl _)) in
+    rw (v, moves, same, count)

@@ -1,22 +1,22 @@
 -- From what the calls of a try, and of a round's tries, promise to the definition. Assumes nothing.
 use Prim.Native.Nat.{ℕ, suc, _+_, _-_, _≤_, _<_}
-use mathlib.Core.Bool.{Bool, true, false, not, cond, _&&_}
+use mathlib.Core.Bool.{Bool, true, false, cond, _&&_}
 use mathlib.Core.List.{List, append-nil}
 use mathlib.Core.Path.{_≡_, refl, sym, ap, _∙_}
 use native.Mathlib.Nat.{le-refl}
 use native.Mathlib.Omega.{arith}
-use borrow.Author.Tests.{not-true, not-false}
 use lib.Ieee.{Float, lt}
 use lib.Ieee.Scale.{finite}
 use lib.ListN.{length, drop-of-length-le}
 use Rattle.floats.specs.Lists.{copiedOf}
-use Rattle.loops.specs.Turns.{Try, go, stop, tried}
+use Rattle.loops.specs.Turns.{Try, go, stop}
+use Rattle.normal.specs.Normal.{productOf, diagMaxOf}
 use Rattle.rows.specs.Column.{laid, columnOf, laidIn}
 use Rattle.sketch.specs.declared.Active.{Active}
 use Rattle.sketch.specs.declared.Line.{Line}
 use Rattle.solver.specs.Sums.{norm2Of}
 use Rattle.rounds.proofs.Column.{column-is}
-use Rattle.rounds.specs.Held.{trialMade, takenFit, harderFit, Shapes}
+use Rattle.rounds.specs.Held.{trialMade, begunFit, takenFit, harderFit, triesAt, Shapes}
 use Rattle.rounds.specs.Problem.{rowCount, valuesAt, stateOf, triedOf}
 use Rattle.rounds.specs.Solve.{Problem, State, Trial, Tried, judged, trialOf, tryOf, triesOf, orNext, better, taken, harder}
 use Rattle.rounds.specs.declared.Fit.{Fit}
@@ -48,15 +48,14 @@ module _ (x r xn rn : List Float) (f : Fit) (cost : Float) (e : cost ≡ norm2Of
   judge-left g h t = rw (test false h, t)
 
 module _ (P : Problem) (j a : List Float) (m : Float) (x r : List Float) (f : Fit) where
-  pub no-try : (ok : Bool) (t : Trial) (g : Fit) → tried ok t ≡ trialOf P j a m (f .mu) x r → not ok ≡ true → g ≡ harderFit f
-      → triedOf x r (record { improved = false; fit = g }) ≡ tryOf P j a m (stateOf x r f)
+  pub no-try : (g : Fit) → stop ≡ trialOf P j a m (f .mu) x r → g ≡ harderFit f → triedOf x r (record { improved = false; fit = g }) ≡ tryOf P j a m (stateOf x r f)
   unfolding tryOf
-  no-try ok t g e h q = let s : tried false t ≡ trialOf P j a m (f .mu) x r = rw (not-true ok h) at e in rw (← s, q)
+  no-try g s q = rw (← s, q)
 
-  pub a-try : (ok : Bool) (t : Trial) (x′ r′ : List Float) (g : Attempted) → tried ok t ≡ trialOf P j a m (f .mu) x r → not ok ≡ false
-      → triedOf x′ r′ g ≡ judged (stateOf x r f) (go t) → triedOf x′ r′ g ≡ tryOf P j a m (stateOf x r f)
+  pub a-try : (t : Trial) (x′ r′ : List Float) (g : Attempted) → go t ≡ trialOf P j a m (f .mu) x r → triedOf x′ r′ g ≡ judged (stateOf x r f) (go t)
+      → triedOf x′ r′ g ≡ tryOf P j a m (stateOf x r f)
   unfolding tryOf
-  a-try ok t x′ r′ g e h q = let s : tried true t ≡ trialOf P j a m (f .mu) x r = rw (not-false ok h) at e in q ∙ ap (judged (stateOf x r f)) s
+  a-try t x′ r′ g s q = q ∙ ap (judged (stateOf x r f)) s
 
 -- ---- the tries of a round
 
@@ -96,26 +95,20 @@ module _ (P : Problem) (j a : List Float) (m : Float) where
   pub tries-done : (i : ℕ) (s : State) (R : Tried) → 12 ≤ i → triesOf P j a m (12 - i) s ≡ R → record { improved = false; state = s } ≡ R
   tries-done i s R h q = sym (tries-none (12 - i) s (omega arith)) ∙ q
 
--- the slices are as long as before
-module _ (es : List Active) (chosen : List ℕ) (rows nf : ℕ) (free : List ℕ) where
-  pub reshaped : (j a x r w y xn rn j′ a′ x′ r′ w′ y′ xn′ rn′ : List Float) → Shapes es chosen rows nf free j a x r w y xn rn → length j′ ≡ length j
-      → length a′ ≡ length a → length x′ ≡ length x → length r′ ≡ length r → length w′ ≡ length w → length y′ ≡ length y → length xn′ ≡ length xn
-      → length rn′ ≡ length rn → Shapes es chosen rows nf free j′ a′ x′ r′ w′ y′ xn′ rn′
-  reshaped j a x r w y xn rn j′ a′ x′ r′ w′ y′ xn′ rn′ s ej ea ex er ew ey exn ern = record {
-    chosen-few = s .chosen-few;
-    counted = s .counted;
-    few = s .few;
-    narrow = s .narrow;
-    free-long = s .free-long;
-    jacobian-long = ej ∙ s .jacobian-long;
-    product-long = ea ∙ s .product-long;
-    residuals-long = er ∙ s .residuals-long;
-    work-long = rw ew (s .work-long);
-    answer-long = ey ∙ s .answer-long;
-    trial-long = exn ∙ s .trial-long ∙ sym ex;
-    values-long = ern ∙ s .values-long;
-  }
+  -- the product and its diagonal are those of the Jacobian
+  pub tries-are : (n : ℕ) (x r : List Float) (f g : Fit) (T : Tried) → n ≡ P .rows → a ≡ productOf n (length (P .free)) j → m ≡ diagMaxOf n a → f ≡ begunFit g
+      → T ≡ triesOf P j a m 12 (stateOf x r f) → T ≡ triesAt P j (stateOf x r (begunFit g))
+  tries-are n x r f g T count ea em ef e = e ∙ rw (ef, em, ea, count)
 
-  pub shaped : (j a x r w y xn rn x′ r′ w′ y′ xn′ rn′ : List Float) → Shapes es chosen rows nf free j a x r w y xn rn → length x′ ≡ length x → length r′ ≡ length r
-      → length w′ ≡ length w → length y′ ≡ length y → length xn′ ≡ length xn → length rn′ ≡ length rn → Shapes es chosen rows nf free j a x′ r′ w′ y′ xn′ rn′
-  shaped j a x r w y xn rn x′ r′ w′ y′ xn′ rn′ s = reshaped j a x r w y xn rn j a x′ r′ w′ y′ xn′ rn′ s refl refl
+-- the slices are as long as before
+pub reshaped : (es : List Active) (chosen free : List ℕ) (j r a w j′ r′ a′ w′ : List Float) → Shapes es chosen free j r a w → length j′ ≡ length j → length r′ ≡ length r
+    → length a′ ≡ length a → length w′ ≡ length w → Shapes es chosen free j′ r′ a′ w′
+reshaped es chosen free j r a w j′ r′ a′ w′ s ej er ea ew = record {
+  chosen-few = s .chosen-few;
+  counted = er ∙ s .counted;
+  few = rw er (s .few);
+  narrow = s .narrow;
+  jacobian-long = rw (er, ej) (s .jacobian-long);
+  product-long = rw (er, ea) (s .product-long);
+  work-long = rw (er, ew) (s .work-long);
+}

@@ -8,6 +8,7 @@ use lib.Ieee.{Float}
 use lib.ListN.{length, take}
 use Rattle.floats.specs.Magnitude.{maxOf}
 use Rattle.floats.specs.Ops.{_⊗_, zero⁺, ten, tenth, 1e-10, 1e-15}
+use Rattle.normal.specs.Normal.{productOf, diagMaxOf}
 use Rattle.normal.specs.declared.Largest.{Largest}
 use Rattle.sketch.specs.declared.Active.{Active}
 use Rattle.sketch.specs.declared.Line.{Line}
@@ -15,7 +16,7 @@ use Rattle.solver.specs.Sums.{norm2Of}
 use Rattle.solver.specs.declared.Elimination.{Elimination}
 use Rattle.solver.specs.declared.Elimination.the-variants.{Some, None, TooMany, TooShort}
 use Rattle.rounds.specs.Problem.{rowCount, valuesAt}
-use Rattle.rounds.specs.Solve.{Trial, Outcome, converged, failed}
+use Rattle.rounds.specs.Solve.{Problem, State, Trial, Tried, Outcome, converged, failed, maxTries, triesOf}
 use Rattle.rounds.specs.declared.Attempted.{Attempted}
 use Rattle.rounds.specs.declared.Ended.{Ended}
 use Rattle.rounds.specs.declared.Fit.{Fit}
@@ -51,20 +52,36 @@ isSolved TooShort = false
 abbrev pub trialMade : List Float → List Float → Trial
 trialMade xn rn = record { x = xn; r = rn; cost = norm2Of rn }
 
--- how long the slices of an attempt are
-pub record Shapes (es : List Active) (chosen : List ℕ) (rows nf : ℕ) (free : List ℕ) (j a x r w y xn rn : List Float) : Type 0 where
+-- how long the slices of a try are
+pub record Moved (es : List Active) (chosen free : List ℕ) (j x r xn rn : List Float) : Type 0 where
   pub chosen-few : length chosen ≤ 40
-  pub counted : rows ≡ rowCount es chosen
-  pub few : rows ≤ 80
-  pub narrow : nf ≤ 80
-  pub free-long : length free ≡ nf
-  pub jacobian-long : length j ≡ rows * nf
-  pub product-long : length a ≡ rows * rows
-  pub residuals-long : length r ≡ rows
-  pub work-long : rows * rows ≤ length w
-  pub answer-long : length y ≡ rows
+  pub counted : length r ≡ rowCount es chosen
+  pub few : length r ≤ 80
+  pub narrow : length free ≤ 80
+  pub jacobian-long : length j ≡ length r * length free
   pub trial-long : length xn ≡ length x
-  pub values-long : length rn ≡ rows
+  pub values-long : length rn ≡ length r
+
+-- ---- a round's tries
+
+-- how long the slices of a round are
+pub record Shapes (es : List Active) (chosen free : List ℕ) (j r a w : List Float) : Type 0 where
+  pub chosen-few : length chosen ≤ 40
+  pub counted : length r ≡ rowCount es chosen
+  pub few : length r ≤ 80
+  pub narrow : length free ≤ 80
+  pub jacobian-long : length j ≡ length r * length free
+  pub product-long : length a ≡ length r * length r
+  pub work-long : length w ≡ length r * length r
+
+-- and those of its trials
+pub record Trying (x r xn rn : List Float) : Type 0 where
+  pub trial-long : length xn ≡ length x
+  pub values-long : length rn ≡ length r
+
+-- the tries with the Jacobian j, from the state s on
+abbrev pub triesAt : Problem → List Float → State → Tried
+triesAt P j s = let a = productOf (P .rows) (length (P .free)) j in triesOf P j a (diagMaxOf (P .rows) a) maxTries s
 
 -- ---- the beginning
 

@@ -12,6 +12,7 @@ use Rattle.loops.specs.Numbers.{Meaning, refused, values, notConverged}
 use Rattle.loops.specs.Numbers as number
 use Rattle.sketch.specs.declared.Active.{Active}
 use Rattle.sketch.specs.declared.Line.{Line}
+use Rattle.rounds.specs.Held.{endedOf}
 use Rattle.rounds.specs.Problem.{rowCount, jacobianAt, problemOf}
 use Rattle.rounds.specs.Solve.{Outcome, converged, failed, solveOf}
 use Rattle.rounds.specs.declared.Ended.{Ended}
@@ -82,6 +83,13 @@ module _ (es : List Active) (ls : List Line) (places columns chosen free : List 
       pub jacobian : a′ ≡ checked a a (zeroed (rowCount es chosen * length free) a)
       pub product : b′ ≡ checked b b (zeroed (rowCount es chosen * rowCount es chosen) b)
       pub copy : c′ ≡ checked c c (zeroed (rowCount es chosen * rowCount es chosen) c)
+
+    -- what the fit comes to and leaves, where nothing is refused
+    pub record Leaves (x′ a′ b′ c′ : List Float) (e : Ended) : Type 0 where
+      pub outcome : endedOf x′ e ≡ outcomeOf x
+      pub jacobian : a′ ≡ zeroed (rowCount es chosen * length free) a
+      pub product : b′ ≡ zeroed (rowCount es chosen * rowCount es chosen) b
+      pub copy : c′ ≡ zeroed (rowCount es chosen * rowCount es chosen) c
 
     -- no second answer, and no other content of a lent place, meets the promise
     pub only-one : {x₁ a₁ b₁ c₁ x₂ a₂ b₂ c₂ : List Float} {s₁ s₂ : Solved} → Solves x₁ a₁ b₁ c₁ s₁ → Solves x₂ a₂ b₂ c₂ s₂

@@ -1,13 +1,15 @@
-// One damping attempt, up to its coordinates and residuals.
+// One damping attempt: its elimination, and what comes of it where that has an answer.
 ghost use mathlib.Core.Path.{_≡_};
-ghost use Prim.Native.Nat.{_*_, _≤_};
+ghost use Prim.Native.Nat.{_*_, _≤_, _<_};
 ghost use lib.ListN.{length, take};
-ghost use Rattle.loops.specs.Turns.{tried};
-ghost use Rattle.normal.specs.Normal.{dampedOf};
+ghost use Rattle.loops.specs.Turns.{go, tried};
+ghost use Rattle.normal.specs.Normal.{dampedOf, movedOf};
 ghost use Rattle.solver.specs.Steps.{solutionOf};
-ghost use Rattle.rounds.specs.Held.{isSolved, trialMade, Shapes};
-ghost use Rattle.rounds.specs.Problem.{rowCount, valuesAt, problemOf};
-ghost use Rattle.rounds.specs.Solve.{trialOf};
+ghost use Rattle.rounds.specs.Held.{isSolved, trialMade, Moved};
+ghost use Rattle.rounds.specs.Problem.{rowCount, valuesAt, stateOf, triedOf, problemOf};
+ghost use Rattle.rounds.specs.Solve.{judged, trialAt};
+use crate::Attempted;
+use crate::Fit;
 use sketch::Active;
 use sketch::Line;
 use solver::Elimination;
@@ -24,18 +26,19 @@ fn is_solved(e: Elimination) -> bool
 }
 
 // The step's y: the damped product goes to w and is eliminated there with the residuals r on the right side.
-fn eliminated(
+pub(crate) fn eliminated(
     a: &[f64],
     r: &[f64],
     w: &mut [f64],
     y: &mut [f64],
-    rows: usize,
     mu: f64,
     m: f64,
 ) -> bool
-    requires { ⌜ (rows ≤ 80) × (rows * rows ≤ length (now a)) × (length (now r) ≡ rows) × (rows * rows ≤ length (now w)) × (length (now y) ≡ rows) ⌝ }
-    ensures { λ ok. ⌜ tried ok (now (y .exit)) ≡ solutionOf rows (dampedOf rows mu m (take (rows * rows) (now (a .entry)))) (now (r .entry)) ⌝ }
+    requires { ⌜ (length (now r) ≤ 80) × (length (now r) * length (now r) ≤ length (now a)) × (length (now r) * length (now r) ≤ length (now w)) × (length (now y) ≡ length (now r)) ⌝ }
+    ensures { λ ok. ⌜ tried ok (now (y .exit))
+        ≡ solutionOf (length (now (r .entry))) (dampedOf (length (now (r .entry))) mu m (take (length (now (r .entry)) * length (now (r .entry))) (now (a .entry)))) (now (r .entry)) ⌝ }
 {
+    let rows = r.len();
     normal::damped(a, w, rows, mu, m);
     floats::copy(r, y);
     is_solved(solver::solve_dense(w, y, rows))
@@ -56,35 +59,47 @@ fn values_at(
     rows::residuals(equations, lines, chosen, places, x, r);
 }
 
-// The trial's coordinates go to xn and its residuals to rn, where the elimination has an answer.
-pub(crate) fn trial(
+// A try is taken where its cost is finite and less; then its coordinates and residuals are the fit's.
+fn judge(x: &mut [f64], r: &mut [f64], xn: &[f64], rn: &[f64], fit: Fit) -> Attempted
+    requires { ⌜ (length (now xn) ≡ length (now x)) × (length (now rn) ≡ length (now r)) × (fit .tries < 4096) ⌝ }
+    ensures { λ t. ⌜ triedOf (now (x .exit)) (now (r .exit)) t ≡ judged (stateOf (now (x .entry)) (now (r .entry)) fit) (go (trialMade (now (xn .entry)) (now (rn .entry)))) ⌝ }
+{
+    let cost = solver::norm2(rn);
+    if floats::is_finite(cost) & (cost < fit.cost) {
+        floats::copy(xn, x);
+        floats::copy(rn, r);
+        return Attempted {
+            improved: true,
+            fit: fit.taken(cost),
+        };
+    }
+    Attempted {
+        improved: false,
+        fit: fit.harder(),
+    }
+}
+
+// The try whose step is in rn: its coordinates go to xn, and their residuals to rn in its place.
+pub(crate) fn one_try(
     equations: [Active; 40],
     lines: [Line; 40],
     chosen: &[usize],
     places: &[u8],
     free: &[usize],
     j: &[f64],
-    a: &[f64],
-    x: &[f64],
-    r: &[f64],
-    w: &mut [f64],
-    y: &mut [f64],
+    x: &mut [f64],
+    r: &mut [f64],
     xn: &mut [f64],
     rn: &mut [f64],
-    rows: usize,
-    nf: usize,
-    mu: f64,
-    m: f64,
-) -> bool
-    requires { ⌜ Shapes equations (now chosen) rows nf (now free) (now j) (now a) (now x) (now r) (now w) (now y) (now xn) (now rn) ⌝ }
-    ensures { λ ok. ⌜ tried ok (trialMade (now (xn .exit)) (now (rn .exit)))
-        ≡ trialOf (problemOf equations lines (now (places .entry)) (now (chosen .entry)) (now (free .entry)) rows) (now (j .entry)) (now (a .entry)) m mu (now (x .entry)) (now (r .entry)) ⌝ }
+    fit: Fit,
+) -> Attempted
+    requires { ⌜ Moved equations (now chosen) (now free) (now j) (now x) (now r) (now xn) (now rn) × (fit .tries < 4096) ⌝ }
+    ensures { λ t. ⌜ triedOf (now (x .exit)) (now (r .exit)) t
+        ≡ judged (stateOf (now (x .entry)) (now (r .entry)) fit) (go (trialAt (problemOf equations lines (now (places .entry)) (now (chosen .entry)) (now (free .entry)) (rowCount equations (now (chosen .entry))))
+        (movedOf (rowCount equations (now (chosen .entry))) (length (now (free .entry))) (now (j .entry)) (now (rn .entry)) (now (free .entry)) (now (x .entry))))) ⌝ }
 {
-    if !eliminated(a, r, w, y, rows, mu, m) {
-        return false;
-    }
     floats::copy(x, xn);
-    normal::moved(j, y, free, xn, rows, nf);
+    normal::moved(j, rn, free, xn, r.len(), free.len());
     values_at(equations, lines, chosen, places, xn, rn);
-    true
+    judge(x, r, xn, rn, fit)
 }

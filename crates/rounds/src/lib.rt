@@ -7,7 +7,22 @@ mod tries;
 
 ghost use mathlib.Core.Path.{_≡_};
 ghost use Rattle.rounds.specs.Promise.{convergedBy};
+use members::Coordinates;
+use members::Equations;
 pub use opening::solve;
+use sketch::Active;
+use sketch::Line;
+
+// What a fit is of: the chosen equations of a build, its lines, the tables of a point's place in the group and of a coordinate's
+// among the free ones, and which coordinates these are.
+pub struct Posed {
+    pub equations: [Active; 40],
+    pub lines: [Line; 40],
+    pub chosen: Equations,
+    pub places: [u8; 40],
+    pub columns: [u8; 80],
+    pub free: Coordinates,
+}
 
 // Where the fit stands beside its coordinates and residuals: `cost`, `mu`, `polish`, and the rounds and tries begun.
 pub struct Fit {
@@ -42,7 +57,7 @@ pub enum FitEnding {
     Converged,
     // No coordinates are handed out.
     Failed,
-    // 3: more than 40 equations, or 80 coordinates or free ones.
+    // 3: more than 80 coordinates.
     TooMany,
     // 9: a work area shorter than 6,400, the most that 80 rows and 80 free coordinates take.
     TooShort,

@@ -1,17 +1,18 @@
 // How a fit begins: converged at its start, nothing free, or the rounds; and the public call.
 ghost use mathlib.Core.Path.{_≡_};
-ghost use Prim.Native.Nat.{_≤_, _*_};
+ghost use Prim.Native.Nat.{_≤_};
 ghost use lib.ListN.{length};
+ghost use Rattle.members.specs.Lists.{numbersOf};
+ghost use Rattle.members.specs.Movable.{indicesOf};
 ghost use Rattle.rounds.specs.Held.{Shapes, Own, Begun, endedOf};
-ghost use Rattle.rounds.specs.Problem.{rowCount, jacobianAt, problemOf};
-ghost use Rattle.rounds.specs.Promise.{Solves, outcomeOf, zeroed, answerOf, saying};
-ghost use Rattle.rounds.specs.Solve.{solveOf};
+ghost use Rattle.rounds.specs.Promise.{Solves, Leaves, outcomeOf, answerOf, saying};
 use crate::Ended;
 use crate::Fit;
-use crate::FitEnding;
+use crate::Posed;
 use crate::Solved;
 use crate::round::all_rounds;
 use crate::round::within;
+use loops::smaller;
 use sketch::Active;
 use sketch::Line;
 
@@ -27,16 +28,10 @@ fn opened(
     j: &mut [f64],
     a: &mut [f64],
     w: &mut [f64],
-    y: &mut [f64],
-    xn: &mut [f64],
-    rn: &mut [f64],
-    rows: usize,
-    nf: usize,
 ) -> Ended
-    requires { ⌜ Shapes equations (now chosen) rows nf (now free) (now j) (now a) (now x) (now r) (now w) (now y) (now xn) (now rn)
+    requires { ⌜ Shapes equations (now chosen) (now free) (now j) (now r) (now a) (now w) × (length (now x) ≤ 80)
         × Own equations lines (now places) (now chosen) (now x) (now r) ⌝ }
-    ensures { λ e. ⌜ endedOf (now (x .exit)) e
-        ≡ solveOf (problemOf equations lines (now (places .entry)) (now (chosen .entry)) (now (free .entry)) rows) (jacobianAt equations lines (now (places .entry)) (now (chosen .entry)) (now (columns .entry)) nf) (now (x .entry)) ⌝ }
+    ensures { λ e. ⌜ endedOf (now (x .exit)) e ≡ outcomeOf equations lines (now (places .entry)) (now (columns .entry)) (now (chosen .entry)) (now (free .entry)) (now (x .entry)) ⌝ }
 {
     if within(r) {
         return Ended {
@@ -44,7 +39,7 @@ fn opened(
             fit: Fit::start(0.0),
         };
     }
-    if nf == 0 {
+    if free.len() == 0 {
         return Ended {
             converged: false,
             fit: Fit::start(0.0),
@@ -63,11 +58,6 @@ fn opened(
         j,
         a,
         w,
-        y,
-        xn,
-        rn,
-        rows,
-        nf,
         start,
     )
 }
@@ -87,52 +77,39 @@ fn first_values(
     rows::residuals(equations, lines, chosen, places, x, r)
 }
 
-// The Jacobian lies in a, the product in b and its working copy in c; what they held there is +0.0 afterwards.
-fn in_areas(
-    equations: [Active; 40],
-    lines: [Line; 40],
-    chosen: &[usize],
-    places: &[u8],
-    columns: &[u8],
-    free: &[usize],
-    x: &mut [f64],
-    a: &mut [f64],
-    b: &mut [f64],
-    c: &mut [f64],
-) -> Ended
-    requires { ⌜ (length (now chosen) ≤ 40) × (length (now free) ≤ 80) × (length (now x) ≤ 80)
-        × (6400 ≤ length (now a)) × (6400 ≤ length (now b)) × (6400 ≤ length (now c)) ⌝ }
-    ensures { λ e. ⌜ (endedOf (now (x .exit)) e ≡ outcomeOf equations lines (now (places .entry)) (now (columns .entry)) (now (chosen .entry)) (now (free .entry)) (now (x .entry)))
-        × (now (a .exit) ≡ zeroed (rowCount equations (now (chosen .entry)) * length (now (free .entry))) (now (a .entry)))
-        × (now (b .exit) ≡ zeroed (rowCount equations (now (chosen .entry)) * rowCount equations (now (chosen .entry))) (now (b .entry)))
-        × (now (c .exit) ≡ zeroed (rowCount equations (now (chosen .entry)) * rowCount equations (now (chosen .entry))) (now (c .entry))) ⌝ }
+// The Jacobian lies in a, the product in b and its working copy in c; what they held there is +0.0 afterwards. The problem's tables are
+// lent from here, once a fit: a function that lends a table of a value works on a copy of it.
+fn in_areas(p: Posed, x: &mut [f64], a: &mut [f64], b: &mut [f64], c: &mut [f64]) -> Ended
+    requires { ⌜ (length (now x) ≤ 80) × (6400 ≤ length (now a)) × (6400 ≤ length (now b)) × (6400 ≤ length (now c)) ⌝ }
+    ensures { λ e. ⌜ Leaves (p .equations) (p .lines) (p .places) (p .columns) (numbersOf (p .chosen .0)) (indicesOf (p .free)) (now (x .entry)) (now (a .entry)) (now (b .entry)) (now (c .entry))
+        (now (x .exit)) (now (a .exit)) (now (b .exit)) (now (c .exit)) e ⌝ }
 {
+    let equations = p.equations;
+    let lines = p.lines;
+    let listed = p.chosen.0;
+    let items = listed.items;
+    let k = smaller(listed.count, 40);
+    let places = p.places;
+    let columns = p.columns;
+    let free = p.free;
+    let coordinates = free.items;
+    let nf = smaller(free.count, 80);
     let mut r = [0.0; 80];
-    let mut y = [0.0; 80];
-    let mut xn = [0.0; 80];
-    let mut rn = [0.0; 80];
-    let rows = first_values(equations, lines, chosen, places, x, &mut r);
-    let nf = free.len();
-    let n = x.len();
+    let rows = first_values(equations, lines, &items[..k], &places, x, &mut r);
     let size = rows * nf;
     let square = rows * rows;
     let e = opened(
         equations,
         lines,
-        chosen,
-        places,
-        columns,
-        free,
+        &items[..k],
+        &places,
+        &columns,
+        &coordinates[..nf],
         x,
         &mut r[..rows],
         &mut a[..size],
         &mut b[..square],
         &mut c[..square],
-        &mut y[..rows],
-        &mut xn[..n],
-        &mut rn[..rows],
-        rows,
-        nf,
     );
     floats::clear(&mut a[..size]);
     floats::clear(&mut b[..square]);
@@ -170,22 +147,11 @@ fn refused(ending: FitEnding) -> Solved
 }
 
 // Fits the coordinates x to the chosen equations by moving the free ones. Where the fit fails, x is as it was.
-pub fn solve(
-    equations: [Active; 40],
-    lines: [Line; 40],
-    chosen: &[usize],
-    places: &[u8],
-    columns: &[u8],
-    free: &[usize],
-    x: &mut [f64],
-    a: &mut [f64],
-    b: &mut [f64],
-    c: &mut [f64],
-) -> Solved
-    ensures { λ s. ⌜ Solves equations lines (now (places .entry)) (now (columns .entry)) (now (chosen .entry)) (now (free .entry)) (now (x .entry)) (now (a .entry)) (now (b .entry)) (now (c .entry))
+pub fn solve(p: Posed, x: &mut [f64], a: &mut [f64], b: &mut [f64], c: &mut [f64]) -> Solved
+    ensures { λ s. ⌜ Solves (p .equations) (p .lines) (p .places) (p .columns) (numbersOf (p .chosen .0)) (indicesOf (p .free)) (now (x .entry)) (now (a .entry)) (now (b .entry)) (now (c .entry))
         (now (x .exit)) (now (a .exit)) (now (b .exit)) (now (c .exit)) s ⌝ }
 {
-    if (40 < chosen.len()) | (80 < free.len()) | (80 < x.len()) {
+    if 80 < x.len() {
         return refused(FitEnding::TooMany);
     }
     if (a.len() < 6400) | (b.len() < 6400) | (c.len() < 6400) {
@@ -194,18 +160,7 @@ pub fn solve(
     let n = x.len();
     let mut here = [0.0; 80];
     floats::copy(x, &mut here[..n]);
-    let e = in_areas(
-        equations,
-        lines,
-        chosen,
-        places,
-        columns,
-        free,
-        &mut here[..n],
-        a,
-        b,
-        c,
-    );
+    let e = in_areas(p, &mut here[..n], a, b, c);
     if !e.converged {
         return answer(e);
     }

@@ -1,3 +1,5 @@
+use mathlib.Core.Path.{refl}
+use lib.ListN.{length}
 use borrow.Author.Needs.{needs}
 use Rattle.rounds.proofs.Trials.{eliminated-is}
 use Rattle.rounds.proofs.attempt.eliminated.Statement.{statement}
@@ -9,9 +11,9 @@ returns c =
     let k = d .before .before .before .before .before in
     let e = k .before .before .before .before in
     let s = e .before .before .before .before .before .before in
-    eliminated-is (s .args .rows) (s .args .mu) (s .args .m) (s .args .a .now) (s .args .r .now) (s .args .w .now) (s .args .y .now)
+    eliminated-is (length (s .args .r .now)) (s .args .mu) (s .args .m) (s .args .a .now) (s .args .r .now) (s .args .w .now) (s .args .y .now)
     (e .damped .last .1 .0) (k .copy .last .1 .0) (d .solve-dense .last .0) (d .solve-dense .last .1 .0) (e .damped .result) (d .solve-dense .result) (c .is-solved .result)
-    (s .pre .0) (s .pre .1) (s .pre .2) (s .pre .3) (s .pre .4) (e .damped .ensures) (e .damped .kept .1 .0) (k .copy .ensures) (d .solve-dense .ensures) (c .is-solved .ensures)
+    (s .pre .0) (s .pre .1) refl (s .pre .2) (s .pre .3) (e .damped .ensures) (e .damped .kept .1 .0) (k .copy .ensures) (d .solve-dense .ensures) (c .is-solved .ensures)
 
 pub eliminated-spec : {M : Type 1} → statement M
 eliminated-spec =

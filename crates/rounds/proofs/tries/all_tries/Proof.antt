@@ -1,90 +1,223 @@
-use Prim.Native.Nat.{_+_, _-_, _≤_}
-use mathlib.Core.Path.{_≡_, refl, _∙_}
+use Prim.Native.Nat.{_+_, _-_, _*_, _≤_}
+use mathlib.Core.Bool.{false}
+use mathlib.Core.List.{List}
+use mathlib.Core.Path.{_≡_, refl, sym, _∙_}
+use native.Mathlib.Nat.{le-refl}
 use native.Mathlib.Omega.{arith}
+use lib.Ieee.{Float}
 use lib.ListN.{length}
 use borrow.Author.Needs.{needs}
-use Rattle.rounds.specs.Problem.{problemOf, stateOf}
-use Rattle.rounds.specs.Solve.{Problem, triesOf}
-use Rattle.rounds.proofs.Turn.{shaped, one-more, tries-next, tries-stop, tries-done}
+use Rattle.rounds.specs.Held.{begunFit, triesAt}
+use Rattle.rounds.specs.Problem.{rowCount, problemOf, stateOf, triedOf}
+use Rattle.rounds.specs.Solve.{Problem, State, Tried, tryOf, triesOf}
+use Rattle.rounds.proofs.Around.{product-found, diagonal-found}
+use Rattle.rounds.proofs.Trials.{no-trial, a-trial}
+use Rattle.rounds.proofs.Turn.{no-try, a-try, one-more, tries-next, tries-stop, tries-done, tries-are}
 use Rattle.rounds.proofs.tries.all_tries.Statement.{statement}
 use Rattle.rounds.proofs.tries.all_tries.Tie as tie
 
 abbrev Inv-loop : tie.InvT-loop
-Inv-loop equations lines chosen places free j a x₀ r₀ w₀ y₀ xn₀ rn₀ rows nf m f₀ counter₀ x r w y xn rn f counter =
+Inv-loop equations lines chosen places free j x₀ r₀ a w₀ xn₀ rn₀ rows m f₀ counter₀ x r w xn rn f counter =
     (counter ≤ 12)
     × (f .tries ≤ f₀ .tries + counter)
-    × (triesOf (problemOf equations lines places chosen free rows) j a m (12 - counter) (stateOf x r f)
-    ≡ triesOf (problemOf equations lines places chosen free rows) j a m 12 (stateOf x₀ r₀ f₀))
+    × (triesOf (problemOf equations lines places chosen free (rowCount equations chosen)) j a m (12 - counter) (stateOf x r f)
+    ≡ triesOf (problemOf equations lines places chosen free (rowCount equations chosen)) j a m 12 (stateOf x₀ r₀ f₀))
     × (length x ≡ length x₀)
     × (length r ≡ length r₀)
     × (length w ≡ length w₀)
-    × (length y ≡ length y₀)
     × (length xn ≡ length xn₀)
     × (length rn ≡ length rn₀)
 
 abbrev μ-loop : tie.MeasureT-loop
-μ-loop equations lines chosen places free j a x₀ r₀ w₀ y₀ xn₀ rn₀ rows nf m f₀ counter₀ x r w y xn rn f counter =
+μ-loop equations lines chosen places free j x₀ r₀ a w₀ xn₀ rn₀ rows m f₀ counter₀ x r w xn rn f counter =
     12 - counter
 
--- the problem that the parameters pose
-module _ (s : tie.Start Inv-loop μ-loop) where
+-- a turn: the problem that the parameters pose, the product, and where the fit stands
+module _ (l : tie.At-loop Inv-loop μ-loop) where
+  abbrev began : tie.Start Inv-loop μ-loop
+  began = l .before .before .before .before .before .before .before .before .before .before .before .before .before .before .before .before .before .before .before
+
   abbrev posed : Problem
-  posed = problemOf (s .args .equations) (s .args .lines) (s .args .places .now) (s .args .chosen .now) (s .args .free .now) (s .args .rows)
+  posed = problemOf (began .args .equations) (began .args .lines) (began .args .places .now) (began .args .chosen .now) (began .args .free .now) (rowCount (began .args .equations) (began .args .chosen .now))
+
+  abbrev jacobian : List Float
+  jacobian = began .args .j .now
+
+  abbrev product : List Float
+  product = l .before .before .before .before .before .before .before .product .last .1 .0
+
+  abbrev top : Float
+  top = l .before .before .largest .result
+
+  abbrev stands : State
+  stands = stateOf (l .loop .x) (l .loop .r) (l .loop .f)
+
+  count : length (l .loop .r) ≡ rowCount (began .args .equations) (began .args .chosen .now)
+  count = l .loop .inv .4 ∙ began .pre .0 .counted
+
+  few : length (l .loop .r) ≤ 80
+  few = rw (l .loop .inv .4) (began .pre .0 .few)
+
+  square : length product ≡ length (l .loop .r) * length (l .loop .r)
+  square = rw (l .loop .inv .4) (l .before .before .before .before .before .before .before .product .kept .1 .0 ∙ began .pre .0 .product-long)
+
+  bound : l .loop .f .tries ≤ 2412
+  bound =
+      let h : l .before .begun .result .tries ≤ 2400 = rw (l .before .begun .ensures) (began .pre .3) in
+      omega (arith, h, l .loop .inv .0, l .loop .inv .1)
+
+  -- the tries are those of the Jacobian's product
+  whole : (T : Tried) → T ≡ triesOf posed jacobian product top 12 (stateOf (began .args .x .now) (began .args .r .now) (l .before .begun .result))
+      → T ≡ triesAt posed jacobian (stateOf (began .args .x .now) (began .args .r .now) (begunFit (began .args .fit)))
+  whole T e =
+      let d = l .before .before .before in
+      let p = l .before .before .before .before .before .before .before in
+      let ea = product-found (length (began .args .r .now)) (length (began .args .free .now)) jacobian (began .args .a .now) product (p .product .result) (began .pre .0 .few) (began .pre .0 .narrow)
+      (began .pre .0 .jacobian-long) (began .pre .0 .product-long) (p .product .ensures) in
+      let em = diagonal-found (length (began .args .r .now)) product (d .diag-max .result) top (began .pre .0 .few) (p .product .kept .1 .0 ∙ began .pre .0 .product-long) (d .diag-max .ensures) (l .before .before .largest .ensures) in
+      tries-are posed jacobian product top (length (began .args .r .now)) (began .args .x .now) (began .args .r .now) (l .before .begun .result) (began .args .fit) T (began .pre .0 .counted) ea em (l .before .begun .ensures) e
 
 loop-holds : tie.Need-loop-holds Inv-loop μ-loop
-loop-holds c = (search needs, search needs, refl, refl, refl, refl, refl, refl, refl)
+loop-holds c = (search needs, search needs, refl, refl, refl, refl, refl, refl)
 
-one-try-requires : tie.Need-one-try-requires Inv-loop μ-loop
-one-try-requires c κs =
-    let t = c .before .before .before .before .before .before in
-    let l = t .before in
-    let s = l .before .before .before .before .before .before .before .before .before .before .before .before in (
-      shaped (s .args .equations) (s .args .chosen .now) (s .args .rows) (s .args .nf) (s .args .free .now) (s .args .j .now) (s .args .a .now) (s .args .x .now)
-          (s .args .r .now) (s .args .w .now) (s .args .y .now) (s .args .xn .now) (s .args .rn .now) (l .loop .x) (l .loop .r) (l .loop .w) (l .loop .y) (l .loop .xn)
-          (l .loop .rn) (s .pre .0) (l .loop .inv .3) (l .loop .inv .4) (l .loop .inv .5) (l .loop .inv .6) (l .loop .inv .7) (l .loop .inv .8),
-      omega (arith, l .loop .inv .1, s .pre .1, t .loop-test .taken),
+eliminated-requires : tie.Need-eliminated-requires Inv-loop μ-loop
+eliminated-requires c κs =
+    let l = c .before .before .before .before .before in
+    let s = began l in (
+      few l,
+      rw (square l) (le-refl _),
+      rw (l .loop .inv .5 ∙ s .pre .0 .work-long, l .loop .inv .4) (le-refl _),
+      l .loop .inv .7 ∙ s .pre .1 .values-long ∙ sym (l .loop .inv .4),
     )
 
-returns : tie.Need-returns Inv-loop μ-loop
-returns c =
-    let i = c in
-    let o = i .before .before .before .before .before .before .before .before .before .before .before .before .before in
-    let t = o .before .before .before .before .before .before .before in
-    let l = t .before in
-    let s = l .before .before .before .before .before .before .before .before .before .before .before .before in
-    let P = posed s in
-    tries-stop P (s .args .j .now) (s .args .a .now) (s .args .m) (l .loop .counter) (stateOf (l .loop .x) (l .loop .r) (l .loop .f))
-    (o .one-try .last .1 .1 .1 .1 .1 .1 .1 .0) (o .one-try .last .1 .1 .1 .1 .1 .1 .1 .1 .0) (o .one-try .result) _ (t .loop-test .taken) (o .one-try .ensures) (l .loop .inv .2) (i .if1 .taken)
+harder-requires : tie.Need-harder-requires Inv-loop μ-loop
+harder-requires c κs = let h = bound (c .before .before .before .before .before .before .before .before .before .before .before) in omega (arith, h)
+
+add-counter : tie.Need-add-counter Inv-loop μ-loop
+add-counter c = record { fits = omega (arith, c .before .before .before .before .before .before .before .before .before .before .before .loop-test .taken) }
+
+loop-less : tie.Need-loop-less Inv-loop μ-loop
+loop-less c = omega (arith, c .before .before .before .before .before .before .before .before .before .before .before .loop-test .taken)
 
 loop-again : tie.Need-loop-again Inv-loop μ-loop
 loop-again c =
     let i = c .before in
-    let o = i .before .before .before .before .before .before .before .before .before .before .before .before .before in
-    let t = o .before .before .before .before .before .before .before in
-    let l = t .before in
-    let s = l .before .before .before .before .before .before .before .before .before .before .before .before in
-    let P = posed s in
-    let q = one-more P (s .args .j .now) (s .args .a .now) (s .args .m) (stateOf (l .loop .x) (l .loop .r) (l .loop .f)) (o .one-try .last .1 .1 .1 .1 .1 .1 .1 .0) (o .one-try .last .1 .1 .1 .1 .1 .1 .1 .1 .0)
-    (o .one-try .result) (o .one-try .ensures) in (
-      search needs,
+    let e = c .before .before .before .before .before .before in
+    let t = c .before .before .before .before .before .before .before .before .before .before .before in
+    let l = c .before .before .before .before .before .before .before .before .before .before .before .before in
+    let none = no-trial (posed l) (jacobian l) (product l) (l .loop .x) (l .loop .r) (e .eliminated .last .1 .1 .1 .0) (top l) (l .loop .f .mu) (e .eliminated .result) (length (l .loop .r)) (count l) (e .eliminated .ensures) (square l) (i .if1 .taken) in (
+      omega (arith, t .loop-test .taken),
+      rw (c .harder .ensures) (omega (arith, l .loop .inv .1)),
+      tries-next (posed l) (jacobian l) (product l) (top l) (l .loop .counter) (stands l) (l .loop .x) (l .loop .r) (record { improved = false; fit = c .harder .result }) _ (t .loop-test .taken)
+          (no-try (posed l) (jacobian l) (product l) (top l) (l .loop .x) (l .loop .r) (l .loop .f) (c .harder .result) none (c .harder .ensures)) (l .loop .inv .2) refl,
+      l .loop .inv .3,
+      l .loop .inv .4,
+      e .eliminated .kept .1 .1 .0 ∙ l .loop .inv .5,
+      l .loop .inv .6,
+      e .eliminated .kept .1 .1 .1 .0 ∙ l .loop .inv .7,
+    )
+
+one-try-requires : tie.Need-one-try-requires Inv-loop μ-loop
+one-try-requires c κs =
+    let e = c .before .before .before .before .before .before .before .before .before in
+    let l = c .before .before .before .before .before .before .before .before .before .before .before .before .before .before .before in
+    let s = began l in
+    let h = bound l in (
+      record {
+        chosen-few = s .pre .0 .chosen-few;
+        counted = count l;
+        few = few l;
+        narrow = s .pre .0 .narrow;
+        jacobian-long = rw (l .loop .inv .4) (s .pre .0 .jacobian-long);
+        trial-long = l .loop .inv .6 ∙ s .pre .1 .trial-long ∙ sym (l .loop .inv .3);
+        values-long = e .eliminated .kept .1 .1 .1 .0 ∙ l .loop .inv .7 ∙ s .pre .1 .values-long ∙ sym (l .loop .inv .4);
+      },
+      omega (arith, h),
+    )
+
+-- the try that was made
+module _ (o : tie.After-one-try Inv-loop μ-loop) where
+  abbrev turn : tie.At-loop Inv-loop μ-loop
+  turn = o .before .before .before .before .before .before .before .before .before .before .before .before .before .before .before .before
+
+  abbrev x-next : List Float
+  x-next = o .one-try .last .1 .1 .1 .1 .1 .1 .0
+
+  abbrev r-next : List Float
+  r-next = o .one-try .last .1 .1 .1 .1 .1 .1 .1 .0
+
+  made : triedOf x-next r-next (o .one-try .result) ≡ tryOf (posed turn) (jacobian turn) (product turn) (top turn) (stands turn)
+  made =
+      let e = o .before .before .before .before .before .before .before .before .before .before in
+      let some = a-trial (posed turn) (jacobian turn) (product turn) (turn .loop .x) (turn .loop .r) (e .eliminated .last .1 .1 .1 .0) (top turn) (turn .loop .f .mu) (e .eliminated .result) (length (turn .loop .r)) (count turn)
+      (e .eliminated .ensures) (square turn) (o .before .before .before .before .before .if1 .left) in
+      a-try (posed turn) (jacobian turn) (product turn) (top turn) (turn .loop .x) (turn .loop .r) (turn .loop .f) _ x-next r-next (o .one-try .result) some (o .one-try .ensures)
+
+  x-kept : length x-next ≡ length (began turn .args .x .now)
+  x-kept = o .one-try .kept .1 .1 .1 .1 .1 .1 .0 ∙ turn .loop .inv .3
+
+  r-kept : length r-next ≡ length (began turn .args .r .now)
+  r-kept = o .one-try .kept .1 .1 .1 .1 .1 .1 .1 .0 ∙ turn .loop .inv .4
+
+  w-kept : length (o .before .before .before .before .before .before .before .before .before .before .eliminated .last .1 .1 .0) ≡ length (began turn .args .w .now)
+  w-kept = o .before .before .before .before .before .before .before .before .before .before .eliminated .kept .1 .1 .0 ∙ turn .loop .inv .5
+
+  xn-kept : length (o .one-try .last .1 .1 .1 .1 .1 .1 .1 .1 .0) ≡ length (began turn .args .xn .now)
+  xn-kept = o .one-try .kept .1 .1 .1 .1 .1 .1 .1 .1 .0 ∙ turn .loop .inv .6
+
+  rn-kept : length (o .one-try .last .1 .1 .1 .1 .1 .1 .1 .1 .1 .0) ≡ length (began turn .args .rn .now)
+  rn-kept = o .one-try .kept .1 .1 .1 .1 .1 .1 .1 .1 .1 .0 ∙ o .before .before .before .before .before .before .before .before .before .before .eliminated .kept .1 .1 .1 .0 ∙ turn .loop .inv .7
+
+same-length : tie.Need-same-length Inv-loop μ-loop
+same-length c = x-kept (c .before .before .before .before .before .before .before .before .before)
+
+same-length-2 : tie.Need-same-length-2 Inv-loop μ-loop
+same-length-2 c = r-kept (c .before .before .before .before .before .before .before .before .before)
+
+same-length-3 : tie.Need-same-length-3 Inv-loop μ-loop
+same-length-3 c = c .before .before .before .before .before .before .before .before .before .before .before .before .before .before .before .before .before .before .before .before .before .before .before .before .before .before .before .before .before .before .before .before .product .kept .1 .0
+
+same-length-4 : tie.Need-same-length-4 Inv-loop μ-loop
+same-length-4 c = w-kept (c .before .before .before .before .before .before .before .before .before)
+
+same-length-5 : tie.Need-same-length-5 Inv-loop μ-loop
+same-length-5 c = xn-kept (c .before .before .before .before .before .before .before .before .before)
+
+same-length-6 : tie.Need-same-length-6 Inv-loop μ-loop
+same-length-6 c = rn-kept (c .before .before .before .before .before .before .before .before .before)
+
+returns : tie.Need-returns Inv-loop μ-loop
+returns c =
+    let o = c .before .before .before .before .before .before .before .before .before in
+    let l = turn o in
+    whole l _ (tries-stop (posed l) (jacobian l) (product l) (top l) (l .loop .counter) (stands l) (x-next o) (r-next o) (o .one-try .result) _ (c .before .before .before .before .before .before .before .before .before .before .before .before .before .before .before .before .before .before .before .before .before .before .before .before .loop-test .taken) (made o) (l .loop .inv .2) (c .if2 .taken))
+
+add-counter-2 : tie.Need-add-counter-2 Inv-loop μ-loop
+add-counter-2 c = record { fits = omega (arith, c .before .before .before .before .before .before .before .before .before .before .before .before .before .before .before .before .before .before .before .before .before .before .before .before .before .loop-test .taken) }
+
+loop-less-2 : tie.Need-loop-less-2 Inv-loop μ-loop
+loop-less-2 c = omega (arith, c .before .before .before .before .before .before .before .before .before .before .before .before .before .before .before .before .before .before .before .before .before .before .before .before .before .loop-test .taken)
+
+loop-again-2 : tie.Need-loop-again-2 Inv-loop μ-loop
+loop-again-2 c =
+    let o = c .before .before .before .before .before .before .before .before .before .before in
+    let l = turn o in
+    let t = c .before .before .before .before .before .before .before .before .before .before .before .before .before .before .before .before .before .before .before .before .before .before .before .before .before in
+    let q = one-more (posed l) (jacobian l) (product l) (top l) (stands l) (x-next o) (r-next o) (o .one-try .result) (made o) in (
+      omega (arith, t .loop-test .taken),
       omega (arith, q, l .loop .inv .1),
-      tries-next P (s .args .j .now) (s .args .a .now) (s .args .m) (l .loop .counter) (stateOf (l .loop .x) (l .loop .r) (l .loop .f))
-          (o .one-try .last .1 .1 .1 .1 .1 .1 .1 .0) (o .one-try .last .1 .1 .1 .1 .1 .1 .1 .1 .0) (o .one-try .result) _ (t .loop-test .taken) (o .one-try .ensures) (l .loop .inv .2) (i .if1 .left),
-      o .one-try .kept .1 .1 .1 .1 .1 .1 .1 .0 ∙ l .loop .inv .3,
-      o .one-try .kept .1 .1 .1 .1 .1 .1 .1 .1 .0 ∙ l .loop .inv .4,
-      o .one-try .kept .1 .1 .1 .1 .1 .1 .1 .1 .1 .0 ∙ l .loop .inv .5,
-      o .one-try .kept .1 .1 .1 .1 .1 .1 .1 .1 .1 .1 .0 ∙ l .loop .inv .6,
-      o .one-try .kept .1 .1 .1 .1 .1 .1 .1 .1 .1 .1 .1 .0 ∙ l .loop .inv .7,
-      o .one-try .kept .1 .1 .1 .1 .1 .1 .1 .1 .1 .1 .1 .1 .0 ∙ l .loop .inv .8,
+      tries-next (posed l) (jacobian l) (product l) (top l) (l .loop .counter) (stands l) (x-next o) (r-next o) (o .one-try .result) _ (t .loop-test .taken) (made o) (l .loop .inv .2) (c .before .if2 .left),
+      x-kept o,
+      r-kept o,
+      w-kept o,
+      xn-kept o,
+      rn-kept o,
     )
 
 returns-2 : tie.Need-returns-2 Inv-loop μ-loop
 returns-2 c =
-    let t = c in
-    let l = t .before in
-    let s = l .before .before .before .before .before .before .before .before .before .before .before .before in
-    let P = posed s in
-    tries-done P (s .args .j .now) (s .args .a .now) (s .args .m) (l .loop .counter) (stateOf (l .loop .x) (l .loop .r) (l .loop .f)) _ (t .loop-test .left) (l .loop .inv .2)
+    let l = c .before in
+    whole l _ (tries-done (posed l) (jacobian l) (product l) (top l) (l .loop .counter) (stands l) _ (c .loop-test .left) (l .loop .inv .2))
 
 pub all-tries-spec : {M : Type 1} → statement M
 all-tries-spec =
@@ -92,22 +225,31 @@ all-tries-spec =
     (tie.spec
     Inv-loop
     μ-loop
+    (λ c κs. search needs)
+    (λ c κs. search needs)
+    (λ c κs. search needs)
+    (λ c κs. search needs)
     loop-holds
-    one-try-requires
-    (λ c. search needs)
-    (λ c. search needs)
-    (λ c. search needs)
-    (λ c. search needs)
-    (λ c. search needs)
-    (λ c. search needs)
-    returns
-    (λ c. search needs)
-    (λ c. search needs)
+    eliminated-requires
+    harder-requires
+    add-counter
+    loop-less
     loop-again
-    (λ c. search needs)
-    (λ c. search needs)
-    (λ c. search needs)
-    (λ c. search needs)
-    (λ c. search needs)
-    (λ c. search needs)
+    one-try-requires
+    same-length
+    same-length-2
+    same-length-3
+    same-length-4
+    same-length-5
+    same-length-6
+    returns
+    add-counter-2
+    loop-less-2
+    loop-again-2
+    (λ c. c .before .loop .inv .3)
+    (λ c. c .before .loop .inv .4)
+    (λ c. c .before .before .before .before .before .before .before .before .product .kept .1 .0)
+    (λ c. c .before .loop .inv .5)
+    (λ c. c .before .loop .inv .6)
+    (λ c. c .before .loop .inv .7)
     returns-2)

@@ -1,7 +1,7 @@
 use borrow.Author.Needs.{needs}
 use Rattle.rounds.proofs.Turn.{judge-taken, judge-left}
-use Rattle.rounds.proofs.tries.judge.Statement.{statement}
-use Rattle.rounds.proofs.tries.judge.Tie as tie
+use Rattle.rounds.proofs.attempt.judge.Statement.{statement}
+use Rattle.rounds.proofs.attempt.judge.Tie as tie
 
 returns : tie.Need-returns
 returns c =
