@@ -42,7 +42,7 @@ pub struct VecRead {
 }
 
 pub struct OperandRead {
-    pub operand: Operand,
+    pub held: Operand,
     pub next: Cursor,
 }
 

@@ -61,16 +61,8 @@ pub(crate) fn equation_of(kind: Kind, f: [Operand; 5]) -> Equation
         Kind::PointLine => Equation::PointLine(p, m, c.value, d.value),
         Kind::ArcEnds => Equation::ArcEnds(p, q, s),
         Kind::Radius => Equation::Radius(p, q, c.value),
-        Kind::LineCircle => {
-            let rad = rad_of(c);
-            Equation::LineCircle(l, q, rad, d.value)
-        }
-        Kind::CircleCircle => {
-            let first = rad_of(b);
-            let second = rad_of(d);
-            let contact = contact_of(e);
-            Equation::CircleCircle(p, first, s, second, contact)
-        }
+        Kind::LineCircle => Equation::LineCircle(l, q, rad_of(c), d.value),
+        Kind::CircleCircle => Equation::CircleCircle(p, rad_of(b), s, rad_of(d), contact_of(e)),
         Kind::LineArcAt => Equation::LineArcAt(l, q, s),
         Kind::ArcArcAt => Equation::ArcArcAt(p, q, s),
         Kind::Midpoint => Equation::Midpoint(p, m),
