@@ -8,6 +8,7 @@ ghost use Rattle.rounds.specs.Held.{Shapes, Own, Begun, endedOf};
 ghost use Rattle.rounds.specs.Promise.{Solves, Leaves, outcomeOf, answerOf, saying};
 use crate::Ended;
 use crate::Fit;
+use crate::FitEnding;
 use crate::Posed;
 use crate::Solved;
 use crate::round::all_rounds;
