@@ -21,7 +21,7 @@ use Rattle.rounds.proofs.Column.{column-is, values-long, rows-few}
 use Rattle.rounds.specs.Held.{Begun, startedFit, endedOf}
 use Rattle.rounds.specs.Problem.{rowCount, valuesAt, stateOf}
 use Rattle.rounds.specs.Promise.{saying, answerOf, outcomeOf, tooMany, tooShort, Solves, Leaves}
-use Rattle.rounds.specs.Solve.{Problem, Outcome, converged, failed, within, roundsOf, solveOf}
+use Rattle.rounds.specs.Solve.{Problem, converged, failed, within, roundsOf, solveOf}
 use Rattle.rounds.specs.declared.Ended.{Ended}
 use Rattle.rounds.specs.declared.FitEnding.the-variants.{TooMany, TooShort}
 use Rattle.rounds.specs.declared.Fit.{Fit}

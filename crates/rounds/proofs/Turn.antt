@@ -16,7 +16,7 @@ use Rattle.sketch.specs.declared.Active.{Active}
 use Rattle.sketch.specs.declared.Line.{Line}
 use Rattle.solver.specs.Sums.{norm2Of}
 use Rattle.rounds.proofs.Column.{column-is}
-use Rattle.rounds.specs.Held.{trialMade, begunFit, takenFit, harderFit, triesAt, Shapes}
+use Rattle.rounds.specs.Held.{trialMade, begunFit, takenFit, harderFit, triesAt, Shapes, Squares}
 use Rattle.rounds.specs.Problem.{rowCount, valuesAt, stateOf, triedOf}
 use Rattle.rounds.specs.Solve.{Problem, State, Trial, Tried, judged, trialOf, tryOf, triesOf, orNext, better, taken, harder}
 use Rattle.rounds.specs.declared.Fit.{Fit}
@@ -101,14 +101,17 @@ module _ (P : Problem) (j a : List Float) (m : Float) where
   tries-are n x r f g T count ea em ef e = e ∙ rw (ef, em, ea, count)
 
 -- the slices are as long as before
-pub reshaped : (es : List Active) (chosen free : List ℕ) (j r a w j′ r′ a′ w′ : List Float) → Shapes es chosen free j r a w → length j′ ≡ length j → length r′ ≡ length r
-    → length a′ ≡ length a → length w′ ≡ length w → Shapes es chosen free j′ r′ a′ w′
-reshaped es chosen free j r a w j′ r′ a′ w′ s ej er ea ew = record {
+pub reshaped : (es : List Active) (chosen free : List ℕ) (j r j′ r′ : List Float) → Shapes es chosen free j r → length j′ ≡ length j → length r′ ≡ length r → Shapes es chosen free j′ r′
+reshaped es chosen free j r j′ r′ s ej er = record {
   chosen-few = s .chosen-few;
   counted = er ∙ s .counted;
   few = rw er (s .few);
   narrow = s .narrow;
   jacobian-long = rw (er, ej) (s .jacobian-long);
+}
+
+pub squared : (r a w r′ a′ w′ : List Float) → Squares r a w → length r′ ≡ length r → length a′ ≡ length a → length w′ ≡ length w → Squares r′ a′ w′
+squared r a w r′ a′ w′ s er ea ew = record {
   product-long = rw (er, ea) (s .product-long);
   work-long = rw (er, ew) (s .work-long);
 }

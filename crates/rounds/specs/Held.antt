@@ -52,29 +52,22 @@ isSolved TooShort = false
 abbrev pub trialMade : List Float → List Float → Trial
 trialMade xn rn = record { x = xn; r = rn; cost = norm2Of rn }
 
--- how long the slices of a try are
-pub record Moved (es : List Active) (chosen free : List ℕ) (j x r xn rn : List Float) : Type 0 where
-  pub chosen-few : length chosen ≤ 40
-  pub counted : length r ≡ rowCount es chosen
-  pub few : length r ≤ 80
-  pub narrow : length free ≤ 80
-  pub jacobian-long : length j ≡ length r * length free
-  pub trial-long : length xn ≡ length x
-  pub values-long : length rn ≡ length r
-
 -- ---- a round's tries
 
--- how long the slices of a round are
-pub record Shapes (es : List Active) (chosen free : List ℕ) (j r a w : List Float) : Type 0 where
+-- how long the slices of a problem are: its residuals and its Jacobian
+pub record Shapes (es : List Active) (chosen free : List ℕ) (j r : List Float) : Type 0 where
   pub chosen-few : length chosen ≤ 40
   pub counted : length r ≡ rowCount es chosen
   pub few : length r ≤ 80
   pub narrow : length free ≤ 80
   pub jacobian-long : length j ≡ length r * length free
+
+-- those of a round: the product and its working copy
+pub record Squares (r a w : List Float) : Type 0 where
   pub product-long : length a ≡ length r * length r
   pub work-long : length w ≡ length r * length r
 
--- and those of its trials
+-- and those of a trial
 pub record Trying (x r xn rn : List Float) : Type 0 where
   pub trial-long : length xn ≡ length x
   pub values-long : length rn ≡ length r

@@ -5,7 +5,7 @@ ghost use lib.ListN.{length, take};
 ghost use Rattle.loops.specs.Turns.{go, tried};
 ghost use Rattle.normal.specs.Normal.{dampedOf, movedOf};
 ghost use Rattle.solver.specs.Steps.{solutionOf};
-ghost use Rattle.rounds.specs.Held.{isSolved, trialMade, Moved};
+ghost use Rattle.rounds.specs.Held.{isSolved, trialMade, Shapes, Trying};
 ghost use Rattle.rounds.specs.Problem.{rowCount, valuesAt, stateOf, triedOf, problemOf};
 ghost use Rattle.rounds.specs.Solve.{judged, trialAt};
 use crate::Attempted;
@@ -93,7 +93,7 @@ pub(crate) fn one_try(
     rn: &mut [f64],
     fit: Fit,
 ) -> Attempted
-    requires { ⌜ Moved equations (now chosen) (now free) (now j) (now x) (now r) (now xn) (now rn) × (fit .tries < 4096) ⌝ }
+    requires { ⌜ Shapes equations (now chosen) (now free) (now j) (now r) × Trying (now x) (now r) (now xn) (now rn) × (fit .tries < 4096) ⌝ }
     ensures { λ t. ⌜ triedOf (now (x .exit)) (now (r .exit)) t
         ≡ judged (stateOf (now (x .entry)) (now (r .entry)) fit) (go (trialAt (problemOf equations lines (now (places .entry)) (now (chosen .entry)) (now (free .entry)) (rowCount equations (now (chosen .entry))))
         (movedOf (rowCount equations (now (chosen .entry))) (length (now (free .entry))) (now (j .entry)) (now (rn .entry)) (now (free .entry)) (now (x .entry))))) ⌝ }

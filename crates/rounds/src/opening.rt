@@ -4,7 +4,7 @@ ghost use Prim.Native.Nat.{_≤_};
 ghost use lib.ListN.{length};
 ghost use Rattle.members.specs.Lists.{numbersOf};
 ghost use Rattle.members.specs.Movable.{indicesOf};
-ghost use Rattle.rounds.specs.Held.{Shapes, Own, Begun, endedOf};
+ghost use Rattle.rounds.specs.Held.{Shapes, Squares, Own, Begun, endedOf};
 ghost use Rattle.rounds.specs.Promise.{Solves, Leaves, outcomeOf, answerOf, saying};
 use crate::Ended;
 use crate::Fit;
@@ -30,7 +30,7 @@ fn opened(
     a: &mut [f64],
     w: &mut [f64],
 ) -> Ended
-    requires { ⌜ Shapes equations (now chosen) (now free) (now j) (now r) (now a) (now w) × (length (now x) ≤ 80)
+    requires { ⌜ Shapes equations (now chosen) (now free) (now j) (now r) × Squares (now r) (now a) (now w) × (length (now x) ≤ 80)
         × Own equations lines (now places) (now chosen) (now x) (now r) ⌝ }
     ensures { λ e. ⌜ endedOf (now (x .exit)) e ≡ outcomeOf equations lines (now (places .entry)) (now (columns .entry)) (now (chosen .entry)) (now (free .entry)) (now (x .entry)) ⌝ }
 {

@@ -2,7 +2,7 @@
 ghost use mathlib.Core.Path.{_≡_};
 ghost use Prim.Native.Nat.{_≤_};
 ghost use lib.ListN.{length};
-ghost use Rattle.rounds.specs.Held.{Shapes, Own, stepOf, endedOf};
+ghost use Rattle.rounds.specs.Held.{Shapes, Squares, Own, stepOf, endedOf};
 ghost use Rattle.rounds.specs.Problem.{rowCount, jacobianAt, problemOf, stateOf};
 ghost use Rattle.rounds.specs.Solve.{within, roundsOf};
 use crate::Attempted;
@@ -63,7 +63,7 @@ pub(crate) fn all_rounds(
     w: &mut [f64],
     fit: Fit,
 ) -> Ended
-    requires { ⌜ Shapes equations (now chosen) (now free) (now j) (now r) (now a) (now w) × (length (now x) ≤ 80)
+    requires { ⌜ Shapes equations (now chosen) (now free) (now j) (now r) × Squares (now r) (now a) (now w) × (length (now x) ≤ 80)
         × Own equations lines (now places) (now chosen) (now x) (now r) × (fit .iterations ≤ 0) × (fit .tries ≤ 0) ⌝ }
     ensures { λ e. ⌜ endedOf (now (x .exit)) e
         ≡ roundsOf (problemOf equations lines (now (places .entry)) (now (chosen .entry)) (now (free .entry)) (rowCount equations (now (chosen .entry))))

@@ -1,7 +1,7 @@
 // The damping attempts of a round.
 ghost use mathlib.Core.Path.{_≡_};
 ghost use Prim.Native.Nat.{_≤_};
-ghost use Rattle.rounds.specs.Held.{begunFit, largestIn, triesAt, Shapes, Trying};
+ghost use Rattle.rounds.specs.Held.{begunFit, largestIn, triesAt, Shapes, Squares, Trying};
 ghost use Rattle.rounds.specs.Problem.{rowCount, problemOf, stateOf, triedOf};
 use crate::Attempted;
 use crate::Fit;
@@ -38,7 +38,7 @@ pub(crate) fn all_tries(
     rn: &mut [f64],
     fit: Fit,
 ) -> Attempted
-    requires { ⌜ Shapes equations (now chosen) (now free) (now j) (now r) (now a) (now w) × Trying (now x) (now r) (now xn) (now rn) × (fit .iterations ≤ 200) × (fit .tries ≤ 2400) ⌝ }
+    requires { ⌜ Shapes equations (now chosen) (now free) (now j) (now r) × Squares (now r) (now a) (now w) × Trying (now x) (now r) (now xn) (now rn) × (fit .iterations ≤ 200) × (fit .tries ≤ 2400) ⌝ }
     ensures { λ t. ⌜ triedOf (now (x .exit)) (now (r .exit)) t
         ≡ triesAt (problemOf equations lines (now (places .entry)) (now (chosen .entry)) (now (free .entry)) (rowCount equations (now (chosen .entry)))) (now (j .entry)) (stateOf (now (x .entry)) (now (r .entry)) (begunFit fit)) ⌝ }
 {

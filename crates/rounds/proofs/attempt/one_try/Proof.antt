@@ -1,4 +1,4 @@
-use mathlib.Core.Path.{sym, ap, _∙_}
+use mathlib.Core.Path.{ap, _∙_}
 use lib.ListN.{length}
 use borrow.Author.Needs.{needs}
 use Rattle.loops.specs.Turns.{go}
@@ -16,7 +16,7 @@ module _ (s : tie.Start) where
 values-at-requires : tie.Need-values-at-requires
 values-at-requires c κs =
     let s = c .before .before .before .before .before .before .before .before .before .before .before .before .before .before .before .before .before .before .before .before in
-    (s .pre .0 .chosen-few, s .pre .0 .values-long ∙ s .pre .0 .counted)
+    (s .pre .0 .chosen-few, s .pre .1 .values-long ∙ s .pre .0 .counted)
 
 judge-requires : tie.Need-judge-requires
 judge-requires c κs =
@@ -24,7 +24,7 @@ judge-requires c κs =
     let d = v .before .before .before .before .before in
     let k = d .before .before .before .before .before in
     let s = k .before .before .before .before .before .before .before .before .before .before .before in
-    (d .moved .kept .1 .1 .1 .0 ∙ k .copy .kept .1 .0 ∙ s .pre .0 .trial-long, v .values-at .kept .1 .1 .1 .1 .1 .0 ∙ s .pre .0 .values-long, s .pre .1)
+    (d .moved .kept .1 .1 .1 .0 ∙ k .copy .kept .1 .0 ∙ s .pre .1 .trial-long, v .values-at .kept .1 .1 .1 .1 .1 .0 ∙ s .pre .1 .values-long, s .pre .2)
 
 returns : tie.Need-returns
 returns c =
@@ -36,7 +36,7 @@ returns c =
     g .judge .ensures
     ∙ ap (λ t. judged (stateOf (s .args .x .now) (s .args .r .now) (s .args .fit)) (go t))
     (trial-made (posed s) (s .args .j .now) (s .args .x .now) (s .args .rn .now) (s .args .xn .now) (k .copy .last .1 .0) (d .moved .last .1 .1 .1 .0) (v .values-at .last .1 .1 .1 .1 .1 .0)
-    (length (s .args .r .now)) (d .moved .result) (s .pre .0 .counted) (s .pre .0 .few) (s .pre .0 .narrow) (s .pre .0 .jacobian-long) (s .pre .0 .values-long) (s .pre .0 .trial-long)
+    (length (s .args .r .now)) (d .moved .result) (s .pre .0 .counted) (s .pre .0 .few) (s .pre .0 .narrow) (s .pre .0 .jacobian-long) (s .pre .1 .values-long) (s .pre .1 .trial-long)
     (k .copy .ensures) (d .moved .ensures) (v .values-at .ensures))
 
 pub one-try-spec : {M : Type 1} → statement M

@@ -209,6 +209,8 @@ opened-requires c κs =
         few = rw long (few k);
         narrow = rw slots (narrow h);
         jacobian-long = rw (long, slots) (sym (front (wide k) (s .args .a .now) (in-a k)));
+      },
+      record {
         product-long = rw long (sym (front (square k) (s .args .b .now) (in-b k)));
         work-long = rw long (sym (front (square k) (s .args .c .now) (in-c k)));
       },

@@ -22,7 +22,7 @@ returns c =
     let i = c .before in
     let w = i .before in
     let s = w .before .before .before .before .before .before .before .before .before .before .before in
-    opened-within (posed s) (gradients s) (s .args .x .now) (s .args .r .now) (s .pre .2) (w .within .result) (w .within .ensures) (c .start .result) _ (i .if1 .taken) (c .start .ensures)
+    opened-within (posed s) (gradients s) (s .args .x .now) (s .args .r .now) (s .pre .3) (w .within .result) (w .within .ensures) (c .start .result) _ (i .if1 .taken) (c .start .ensures)
 
 returns-2 : tie.Need-returns-2
 returns-2 c =
@@ -30,13 +30,13 @@ returns-2 c =
     let i = n .before in
     let w = i .before in
     let s = w .before .before .before .before .before .before .before .before .before .before .before in
-    opened-fixed (posed s) (gradients s) (s .args .x .now) (s .args .r .now) (s .pre .2) (w .within .result) (w .within .ensures) (c .start2 .result) _ (i .if1 .left) (n .if2 .taken) (c .start2 .ensures)
+    opened-fixed (posed s) (gradients s) (s .args .x .now) (s .args .r .now) (s .pre .3) (w .within .result) (w .within .ensures) (c .start2 .result) _ (i .if1 .left) (n .if2 .taken) (c .start2 .ensures)
 
 all-rounds-requires : tie.Need-all-rounds-requires
 all-rounds-requires c κs =
     let f = c .before .before .before .before .before in
     let s = f .before .before .before .before .before .before .before .before .before .before .before .before .before .before .before .before in
-    (s .pre .0, s .pre .1, s .pre .2, rw (f .start3 .ensures) (le-refl 0), rw (f .start3 .ensures) (le-refl 0))
+    (s .pre .0, s .pre .1, s .pre .2, s .pre .3, rw (f .start3 .ensures) (le-refl 0), rw (f .start3 .ensures) (le-refl 0))
 
 returns-3 : tie.Need-returns-3
 returns-3 c =
@@ -47,7 +47,7 @@ returns-3 c =
     let i = n .before in
     let w = i .before in
     let s = w .before .before .before .before .before .before .before .before .before .before .before in
-    opened-rounds (posed s) (gradients s) (s .args .x .now) (s .args .r .now) (s .pre .2) (w .within .result) (w .within .ensures) (f .start3 .result) (m .norm2 .result) (k .all-rounds .last .1 .1 .1 .1 .1 .1 .0) (k .all-rounds .result)
+    opened-rounds (posed s) (gradients s) (s .args .x .now) (s .args .r .now) (s .pre .3) (w .within .result) (w .within .ensures) (f .start3 .result) (m .norm2 .result) (k .all-rounds .last .1 .1 .1 .1 .1 .1 .0) (k .all-rounds .result)
     (i .if1 .left) (n .if2 .left) (m .norm2 .ensures) (f .start3 .ensures) (k .all-rounds .ensures)
 
 pub opened-spec : {M : Type 1} → statement M

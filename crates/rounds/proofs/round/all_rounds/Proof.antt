@@ -11,7 +11,7 @@ use Rattle.loops.proofs.Parts.{front}
 use Rattle.rounds.specs.Problem.{rowCount, valuesAt, jacobianAt, problemOf, stateOf, triedOf}
 use Rattle.rounds.specs.Solve.{Problem, State, roundOf, roundsOf}
 use Rattle.rounds.proofs.Around.{jacobian-found, round-is, round-counted, round-tried, round-owned, step-counts, rounds-stop, rounds-next, rounds-done}
-use Rattle.rounds.proofs.Turn.{reshaped}
+use Rattle.rounds.proofs.Turn.{reshaped, squared}
 use Rattle.rounds.proofs.round.all_rounds.Statement.{statement}
 use Rattle.rounds.proofs.round.all_rounds.Tie as tie
 
@@ -50,7 +50,7 @@ module _ (l : tie.At-loop Inv-loop μ-loop) where
   stands = stateOf (l .loop .x) (l .loop .r) (l .loop .f)
 
   xn-room : length (began .args .x .now) ≤ length (l .loop .xn)
-  xn-room = rw (l .loop .inv .10) (began .pre .1)
+  xn-room = rw (l .loop .inv .10) (began .pre .2)
 
   rn-room : length (began .args .r .now) ≤ length (l .loop .rn)
   rn-room = rw (l .loop .inv .11) (began .pre .0 .few)
@@ -58,7 +58,7 @@ module _ (l : tie.At-loop Inv-loop μ-loop) where
 loop-holds : tie.Need-loop-holds Inv-loop μ-loop
 loop-holds c =
     let s = c .before .before .before .before .before .before .before .before .before in
-    (search needs, s .pre .3, s .pre .4, s .pre .2, refl, refl, refl, refl, refl, refl, refl, refl)
+    (search needs, s .pre .4, s .pre .5, s .pre .3, refl, refl, refl, refl, refl, refl, refl, refl)
 
 array-borrow-prefix-xn : tie.Need-array-borrow-prefix-xn Inv-loop μ-loop
 array-borrow-prefix-xn c = xn-room (c .before .before .before .before .before .before .before .before .before .before .before)
@@ -78,8 +78,8 @@ all-tries-requires c κs =
     let t = c .before .before .before .before .before .before .before .before .before .before .before .before in
     let l = c .before .before .before .before .before .before .before .before .before .before .before .before .before in
     let s = began l in (
-      reshaped (s .args .equations) (s .args .chosen .now) (s .args .free .now) (s .args .j .now) (s .args .r .now) (s .args .a .now) (s .args .w .now) (d .jacobian .last .1 .1 .1 .1 .1 .1 .1 .0) (l .loop .r) (l .loop .a) (l .loop .w)
-          (s .pre .0) (d .jacobian .kept .1 .1 .1 .1 .1 .1 .1 .0 ∙ l .loop .inv .7) (l .loop .inv .6) (l .loop .inv .8) (l .loop .inv .9),
+      reshaped (s .args .equations) (s .args .chosen .now) (s .args .free .now) (s .args .j .now) (s .args .r .now) (d .jacobian .last .1 .1 .1 .1 .1 .1 .1 .0) (l .loop .r) (s .pre .0) (d .jacobian .kept .1 .1 .1 .1 .1 .1 .1 .0 ∙ l .loop .inv .7) (l .loop .inv .6),
+      squared (s .args .r .now) (s .args .a .now) (s .args .w .now) (l .loop .r) (l .loop .a) (l .loop .w) (s .pre .1) (l .loop .inv .6) (l .loop .inv .8) (l .loop .inv .9),
       record {
         trial-long = sym (front (length (s .args .x .now)) (l .loop .xn) (xn-room l)) ∙ sym (l .loop .inv .5);
         values-long = sym (front (length (s .args .r .now)) (l .loop .rn) (rn-room l)) ∙ sym (l .loop .inv .6);

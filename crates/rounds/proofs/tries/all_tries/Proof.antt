@@ -59,11 +59,11 @@ module _ (l : tie.At-loop Inv-loop μ-loop) where
   few = rw (l .loop .inv .4) (began .pre .0 .few)
 
   square : length product ≡ length (l .loop .r) * length (l .loop .r)
-  square = rw (l .loop .inv .4) (l .before .before .before .before .before .before .before .product .kept .1 .0 ∙ began .pre .0 .product-long)
+  square = rw (l .loop .inv .4) (l .before .before .before .before .before .before .before .product .kept .1 .0 ∙ began .pre .1 .product-long)
 
   bound : l .loop .f .tries ≤ 2412
   bound =
-      let h : l .before .begun .result .tries ≤ 2400 = rw (l .before .begun .ensures) (began .pre .3) in
+      let h : l .before .begun .result .tries ≤ 2400 = rw (l .before .begun .ensures) (began .pre .4) in
       omega (arith, h, l .loop .inv .0, l .loop .inv .1)
 
   -- the tries are those of the Jacobian's product
@@ -73,8 +73,8 @@ module _ (l : tie.At-loop Inv-loop μ-loop) where
       let d = l .before .before .before in
       let p = l .before .before .before .before .before .before .before in
       let ea = product-found (length (began .args .r .now)) (length (began .args .free .now)) jacobian (began .args .a .now) product (p .product .result) (began .pre .0 .few) (began .pre .0 .narrow)
-      (began .pre .0 .jacobian-long) (began .pre .0 .product-long) (p .product .ensures) in
-      let em = diagonal-found (length (began .args .r .now)) product (d .diag-max .result) top (began .pre .0 .few) (p .product .kept .1 .0 ∙ began .pre .0 .product-long) (d .diag-max .ensures) (l .before .before .largest .ensures) in
+      (began .pre .0 .jacobian-long) (began .pre .1 .product-long) (p .product .ensures) in
+      let em = diagonal-found (length (began .args .r .now)) product (d .diag-max .result) top (began .pre .0 .few) (p .product .kept .1 .0 ∙ began .pre .1 .product-long) (d .diag-max .ensures) (l .before .before .largest .ensures) in
       tries-are posed jacobian product top (length (began .args .r .now)) (began .args .x .now) (began .args .r .now) (l .before .begun .result) (began .args .fit) T (began .pre .0 .counted) ea em (l .before .begun .ensures) e
 
 loop-holds : tie.Need-loop-holds Inv-loop μ-loop
@@ -86,8 +86,8 @@ eliminated-requires c κs =
     let s = began l in (
       few l,
       rw (square l) (le-refl _),
-      rw (l .loop .inv .5 ∙ s .pre .0 .work-long, l .loop .inv .4) (le-refl _),
-      l .loop .inv .7 ∙ s .pre .1 .values-long ∙ sym (l .loop .inv .4),
+      rw (l .loop .inv .5 ∙ s .pre .1 .work-long, l .loop .inv .4) (le-refl _),
+      l .loop .inv .7 ∙ s .pre .2 .values-long ∙ sym (l .loop .inv .4),
     )
 
 harder-requires : tie.Need-harder-requires Inv-loop μ-loop
@@ -129,8 +129,10 @@ one-try-requires c κs =
         few = few l;
         narrow = s .pre .0 .narrow;
         jacobian-long = rw (l .loop .inv .4) (s .pre .0 .jacobian-long);
-        trial-long = l .loop .inv .6 ∙ s .pre .1 .trial-long ∙ sym (l .loop .inv .3);
-        values-long = e .eliminated .kept .1 .1 .1 .0 ∙ l .loop .inv .7 ∙ s .pre .1 .values-long ∙ sym (l .loop .inv .4);
+      },
+      record {
+        trial-long = l .loop .inv .6 ∙ s .pre .2 .trial-long ∙ sym (l .loop .inv .3);
+        values-long = e .eliminated .kept .1 .1 .1 .0 ∙ l .loop .inv .7 ∙ s .pre .2 .values-long ∙ sym (l .loop .inv .4);
       },
       omega (arith, h),
     )
