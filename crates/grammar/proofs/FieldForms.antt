@@ -78,13 +78,13 @@ contact-found outside t h = refl
 contact-found (inside plus) t h = refl
 contact-found (inside minus) t h = refl
 
-contact-at : (s : List ℕ) (c : Cursor) → contactAt s c ≡ record { held = touching (contactOf (readContact s c)); next = fold (eatOf s) c (touchWord (readContact s c)) }
+contact-at : (s : List ℕ) (c : Cursor) → contactAt s c ≡ record { read = touching (contactOf (readContact s c)); next = fold (eatOf s) c (touchWord (readContact s c)) }
 unfolding contactAt pick
 contact-at s c =
-    let f : Touch → OperandRead = λ o. record { held = touching (contactOf o); next = fold (eatOf s) c (touchWord o) } in
+    let f : Touch → OperandRead = λ o. record { read = touching (contactOf o); next = fold (eatOf s) c (touchWord o) } in
     let o = fold (eatOf s) c (touchWord outside) .ok in
     let p = fold (eatOf s) c (signWord plus) .ok in
-    ap (λ r. cond {A = OperandRead} o (f outside) (record { held = touching (Contact.Inside (r .value)); next = r .next })) (side-at s c)
+    ap (λ r. cond {A = OperandRead} o (f outside) (record { read = touching (Contact.Inside (r .value)); next = r .next })) (side-at s c)
     ∙ of-cond f o outside (inside (cond p plus minus)) ∙ ap (λ r. f (cond o outside r)) (sym (of-cond inside p plus minus))
 
 -- A radius: a word, and then a point or a float.
@@ -131,10 +131,10 @@ abbrev readRadius : List ℕ → Cursor → Radius
 readRadius s c = let k = pick byWord s c (number ∷ []) float in radiusOf k (readBy k s (fold (eatOf s) c (byWord k)))
 
 rad-at : (s : List ℕ) (c : Cursor) → let k = pick byWord s c (number ∷ []) float in
-    radAt s c ≡ record { held = round (radOf (readRadius s c)); next = nextBy k s (fold (eatOf s) c (byWord k)) }
+    radAt s c ≡ record { read = round (radOf (readRadius s c)); next = nextBy k s (fold (eatOf s) c (byWord k)) }
 unfolding radAt pick valueAt
 rad-at s c =
-    of-cond (λ k. record { held = round (radOf (radiusOf k (readBy k s (fold (eatOf s) c (byWord k))))); next = nextBy k s (fold (eatOf s) c (byWord k)) })
+    of-cond (λ k. record { read = round (radOf (radiusOf k (readBy k s (fold (eatOf s) c (byWord k))))); next = nextBy k s (fold (eatOf s) c (byWord k)) })
     (fold (eatOf s) c (byWord number) .ok) number float
 
 radius-reads : Reads (λ r. ascii "," ++ radiusText r) RadiusFits readRadius (λ s c. radAt s c .next) parted
@@ -172,15 +172,15 @@ readField Sort.Side s c = readSide s c
 readField Sort.Radius s c = readRadius s c
 readField Sort.Contact s c = readContact s c
 
-operand-is : (f : Sort) (s : List ℕ) (c : Cursor) → operandAt s f c .held ≡ operandOf (fieldOf f (meantOf f (readField f s c)))
+operand-is : (f : Sort) (s : List ℕ) (c : Cursor) → operandAt s f c .read ≡ operandOf (fieldOf f (meantOf f (readField f s c)))
 unfolding operandAt valueAt
 operand-is Sort.Point s c = refl
 operand-is Sort.Line s c = refl
 operand-is Sort.Value s c = refl
 operand-is Sort.Axis s c = ap (λ r. numbered (r .value)) (axis-at s c)
 operand-is Sort.Side s c = ap (λ r. valued (r .value)) (side-at s c)
-operand-is Sort.Radius s c = ap (λ r. r .held) (rad-at s c)
-operand-is Sort.Contact s c = ap (λ r. r .held) (contact-at s c)
+operand-is Sort.Radius s c = ap (λ r. r .read) (rad-at s c)
+operand-is Sort.Contact s c = ap (λ r. r .read) (contact-at s c)
 
 -- a reading of one of a few words
 word-field : {K : Type 0} (word : K → List ℕ) (l : List K) (d : K) (next : List ℕ → Cursor → Cursor)

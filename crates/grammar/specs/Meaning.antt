@@ -8,7 +8,7 @@ use Rattle.plane.specs.declared.Vec2.{Vec2}
 use Rattle.sketch.specs.Blank.{blankPoint, blankActive, blankMeasured, filled}
 use Rattle.sketch.specs.Involved.{noLine}
 use Rattle.sketch.specs.Kinds.{fieldsOf, measuredFields}
-use Rattle.sketch.specs.Made.{pointNo, lineNo, equationFrom, measureFrom, Held, Row, rowFields}
+use Rattle.sketch.specs.Made.{pointNo, lineNo, equationFrom, measureFrom, Stands, Row, rowFields}
 use Rattle.sketch.specs.declared.Active.{Active}
 use Rattle.sketch.specs.declared.Build.{Build}
 use Rattle.sketch.specs.declared.Contact.{Contact}
@@ -40,7 +40,7 @@ contactOf outside = Contact.Outside
 contactOf (inside k) = Contact.Inside (signOf k)
 
 -- what stands in the fields
-abbrev pub meantOf : (f : Sort) → Content f → Held f
+abbrev pub meantOf : (f : Sort) → Content f → Stands f
 meantOf Sort.Point n = pointNo n
 meantOf Sort.Line n = lineNo n
 meantOf Sort.Value b = floatOf b

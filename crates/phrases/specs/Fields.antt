@@ -47,14 +47,14 @@ radAt s c =
     let byPoint = wordAt s c (ascii ",p") in
     let p = numberAt s byPoint in
     let v = valueAt s (wordAt s c (ascii ",v")) in
-    cond (byPoint .ok) (record { held = round (Rad.Point (pointNo (p .value))); next = p .next }) (record { held = round (Rad.Value (v .value)); next = v .next })
+    cond (byPoint .ok) (record { read = round (Rad.Point (pointNo (p .value))); next = p .next }) (record { read = round (Rad.Value (v .value)); next = v .next })
 
 -- o is outside, a sign is inside
 unfoldable pub contactAt : List ℕ → Cursor → OperandRead
 contactAt s c =
     let outside = wordAt s c (ascii ",o") in
     let sign = sideAt s c in
-    cond (outside .ok) (record { held = touching Contact.Outside; next = outside }) (record { held = touching (Contact.Inside (sign .value)); next = sign .next })
+    cond (outside .ok) (record { read = touching Contact.Outside; next = outside }) (record { read = touching (Contact.Inside (sign .value)); next = sign .next })
 
 -- two floats; in front of the first there is no comma
 unfoldable pub vecAt : List ℕ → Cursor → VecRead
@@ -65,10 +65,10 @@ vecAt s c =
 
 -- A field by its sort.
 abbrev pub byNumber : WholeRead → OperandRead
-byNumber n = record { held = numbered (n .value); next = n .next }
+byNumber n = record { read = numbered (n .value); next = n .next }
 
 abbrev pub byValue : FloatRead → OperandRead
-byValue v = record { held = valued (v .value); next = v .next }
+byValue v = record { read = valued (v .value); next = v .next }
 
 unfoldable pub operandAt : List ℕ → Sort → Cursor → OperandRead
 operandAt s Sort.Point c = byNumber (numberAt s c)
@@ -82,7 +82,7 @@ operandAt s Sort.Contact c = contactAt s c
 -- The fields one after another.
 abbrev pub operandsAt : List ℕ → List Sort → Cursor → List Operand
 operandsAt s [] c = []
-operandsAt s (f ∷ l) c = let r = operandAt s f c in r .held ∷ operandsAt s l (r .next)
+operandsAt s (f ∷ l) c = let r = operandAt s f c in r .read ∷ operandsAt s l (r .next)
 
 abbrev pub pastFields : List ℕ → List Sort → Cursor → Cursor
 pastFields s [] c = c

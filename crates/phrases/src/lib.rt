@@ -42,7 +42,7 @@ pub struct VecRead {
 }
 
 pub struct OperandRead {
-    pub held: Operand,
+    pub read: Operand,
     pub next: Cursor,
 }
 

@@ -20,10 +20,10 @@ use spelling::WholeRead;
 
 // A place that is handed on is made anew from its two parts, here and below: moved as a whole it would wait until both are stored.
 pub(crate) fn holding(number: usize, value: f64, bare: usize, next: Cursor) -> OperandRead
-    ensures { λ r. ⌜ r ≡ record { held = Made.operand number value bare; next = next } ⌝ }
+    ensures { λ r. ⌜ r ≡ record { read = Made.operand number value bare; next = next } ⌝ }
 {
     OperandRead {
-        held: Operand {
+        read: Operand {
             number,
             value,
             bare,
@@ -88,25 +88,25 @@ pub(crate) fn fields(s: &[u8], l: Sorts, c: Cursor) -> FieldsRead
         Sorts::None => five(none, none, none, none, none, c),
         Sorts::One(i) => {
             let a = operand(s, i, c);
-            five(a.held, none, none, none, none, a.next)
+            five(a.read, none, none, none, none, a.next)
         }
         Sorts::Two(i, j) => {
             let a = operand(s, i, c);
             let b = operand(s, j, a.next);
-            five(a.held, b.held, none, none, none, b.next)
+            five(a.read, b.read, none, none, none, b.next)
         }
         Sorts::Three(i, j, k) => {
             let a = operand(s, i, c);
             let b = operand(s, j, a.next);
             let d = operand(s, k, b.next);
-            five(a.held, b.held, d.held, none, none, d.next)
+            five(a.read, b.read, d.read, none, none, d.next)
         }
         Sorts::Four(i, j, k, m) => {
             let a = operand(s, i, c);
             let b = operand(s, j, a.next);
             let d = operand(s, k, b.next);
             let e = operand(s, m, d.next);
-            five(a.held, b.held, d.held, e.held, none, e.next)
+            five(a.read, b.read, d.read, e.read, none, e.next)
         }
         Sorts::Five(i, j, k, m, n) => {
             let a = operand(s, i, c);
@@ -114,7 +114,7 @@ pub(crate) fn fields(s: &[u8], l: Sorts, c: Cursor) -> FieldsRead
             let d = operand(s, k, b.next);
             let e = operand(s, m, d.next);
             let f = operand(s, n, e.next);
-            five(a.held, b.held, d.held, e.held, f.held, f.next)
+            five(a.read, b.read, d.read, e.read, f.read, f.next)
         }
     }
 }

@@ -19,7 +19,7 @@ use Rattle.slopes.specs.Dense.{jacobianOf}
 use Rattle.sketch.specs.declared.Active.{Active}
 use Rattle.sketch.specs.declared.Line.{Line}
 use Rattle.rounds.proofs.Column.{table-is}
-use Rattle.rounds.specs.Held.{begunFit, largestIn, polishedFit, stepBy, stepOf, triesAt, endedOf}
+use Rattle.rounds.specs.Inside.{begunFit, largestIn, polishedFit, stepBy, stepOf, triesAt, endedOf}
 use Rattle.rounds.proofs.Holding.{round-own}
 use Rattle.rounds.specs.Problem.{rowCount, jacobianAt, stateOf, triedOf}
 use Rattle.rounds.specs.Solve.{Problem, State, Trial, Tried, Outcome, converged, within, judged, trialOf, tryOf, triesOf, orNext, better, taken, harder, begun, roundOf, roundsOf, ended, decided}

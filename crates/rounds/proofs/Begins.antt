@@ -18,7 +18,7 @@ use Rattle.sketch.specs.declared.Active.{Active}
 use Rattle.sketch.specs.declared.Line.{Line}
 use Rattle.solver.specs.Sums.{norm2Of}
 use Rattle.rounds.proofs.Column.{column-is, values-long, rows-few}
-use Rattle.rounds.specs.Held.{Begun, startedFit, endedOf}
+use Rattle.rounds.specs.Inside.{Begun, startedFit, endedOf}
 use Rattle.rounds.specs.Problem.{rowCount, valuesAt, stateOf}
 use Rattle.rounds.specs.Promise.{saying, answerOf, outcomeOf, tooMany, tooShort, Solves, Leaves}
 use Rattle.rounds.specs.Solve.{Problem, converged, failed, within, roundsOf, solveOf}

@@ -18,7 +18,7 @@ use Rattle.solver.specs.Promise.{Solves, checked, found, orZeros, solved}
 use Rattle.solver.specs.Steps.{solutionOf}
 use Rattle.solver.specs.declared.Elimination.{Elimination}
 use Rattle.solver.specs.declared.Elimination.the-variants.{TooMany, TooShort}
-use Rattle.rounds.specs.Held.{isSolved, trialMade}
+use Rattle.rounds.specs.Inside.{isSolved, trialMade}
 use Rattle.rounds.specs.Solve.{Problem, trialAt, trialOf}
 
 -- a list copied over one of its own length

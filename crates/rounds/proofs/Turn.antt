@@ -16,7 +16,7 @@ use Rattle.sketch.specs.declared.Active.{Active}
 use Rattle.sketch.specs.declared.Line.{Line}
 use Rattle.solver.specs.Sums.{norm2Of}
 use Rattle.rounds.proofs.Column.{column-is}
-use Rattle.rounds.specs.Held.{trialMade, begunFit, takenFit, harderFit, triesAt, Shapes, Squares}
+use Rattle.rounds.specs.Inside.{trialMade, begunFit, takenFit, harderFit, triesAt, Shapes, Squares}
 use Rattle.rounds.specs.Problem.{rowCount, valuesAt, stateOf, triedOf}
 use Rattle.rounds.specs.Solve.{Problem, State, Trial, Tried, judged, trialOf, tryOf, triesOf, orNext, better, taken, harder}
 use Rattle.rounds.specs.declared.Fit.{Fit}

@@ -1,5 +1,5 @@
 pub mod Solve
 pub mod Holds
 pub mod Problem
-pub mod Held
+pub mod Inside
 pub mod Promise

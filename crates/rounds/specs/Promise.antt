@@ -12,7 +12,7 @@ use Rattle.loops.specs.Numbers.{Meaning, refused, values, notConverged}
 use Rattle.loops.specs.Numbers as number
 use Rattle.sketch.specs.declared.Active.{Active}
 use Rattle.sketch.specs.declared.Line.{Line}
-use Rattle.rounds.specs.Held.{endedOf}
+use Rattle.rounds.specs.Inside.{endedOf}
 use Rattle.rounds.specs.Problem.{rowCount, jacobianAt, problemOf}
 use Rattle.rounds.specs.Solve.{Outcome, converged, failed, solveOf}
 use Rattle.rounds.specs.declared.Ended.{Ended}

@@ -5,7 +5,7 @@ ghost use lib.ListN.{length, take};
 ghost use Rattle.loops.specs.Turns.{go, tried};
 ghost use Rattle.normal.specs.Normal.{dampedOf, movedOf};
 ghost use Rattle.solver.specs.Steps.{solutionOf};
-ghost use Rattle.rounds.specs.Held.{isSolved, trialMade, Shapes, Trying};
+ghost use Rattle.rounds.specs.Inside.{isSolved, trialMade, Shapes, Trying};
 ghost use Rattle.rounds.specs.Problem.{rowCount, valuesAt, stateOf, triedOf, problemOf};
 ghost use Rattle.rounds.specs.Solve.{judged, trialAt};
 use crate::Attempted;

@@ -4,7 +4,7 @@ ghost use Prim.Native.Nat.{_≤_};
 ghost use lib.ListN.{length};
 ghost use Rattle.members.specs.Lists.{numbersOf};
 ghost use Rattle.members.specs.Movable.{indicesOf};
-ghost use Rattle.rounds.specs.Held.{Shapes, Squares, Own, Begun, endedOf};
+ghost use Rattle.rounds.specs.Inside.{Shapes, Squares, Own, Begun, endedOf};
 ghost use Rattle.rounds.specs.Promise.{Solves, Leaves, outcomeOf, answerOf, saying};
 use crate::Ended;
 use crate::Fit;

@@ -2,7 +2,7 @@
 ghost use mathlib.Core.Path.{_≡_};
 ghost use Prim.Native.Nat.{_≤_};
 ghost use lib.ListN.{length};
-ghost use Rattle.rounds.specs.Held.{Shapes, Squares, Own, stepOf, endedOf};
+ghost use Rattle.rounds.specs.Inside.{Shapes, Squares, Own, stepOf, endedOf};
 ghost use Rattle.rounds.specs.Problem.{rowCount, jacobianAt, problemOf, stateOf};
 ghost use Rattle.rounds.specs.Solve.{within, roundsOf};
 use crate::Attempted;

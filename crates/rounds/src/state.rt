@@ -1,7 +1,7 @@
 // The steps of the fit's state.
 ghost use mathlib.Core.Path.{_≡_};
 ghost use Prim.Native.Nat.{_<_};
-ghost use Rattle.rounds.specs.Held.{startedFit, takenFit, harderFit, begunFit, polishedFit};
+ghost use Rattle.rounds.specs.Inside.{startedFit, takenFit, harderFit, begunFit, polishedFit};
 use crate::Fit;
 
 impl Fit {

@@ -1,7 +1,7 @@
 // The damping attempts of a round.
 ghost use mathlib.Core.Path.{_≡_};
 ghost use Prim.Native.Nat.{_≤_};
-ghost use Rattle.rounds.specs.Held.{begunFit, largestIn, triesAt, Shapes, Squares, Trying};
+ghost use Rattle.rounds.specs.Inside.{begunFit, largestIn, triesAt, Shapes, Squares, Trying};
 ghost use Rattle.rounds.specs.Problem.{rowCount, problemOf, stateOf, triedOf};
 use crate::Attempted;
 use crate::Fit;

@@ -125,16 +125,16 @@ abbrev pub measureFrom : Gauge → List Field → Measure
 measureFrom g l = measureOf g (five (map operandOf l))
 
 -- what a field of a sort may hold, and fields of the sorts of a row
-abbrev pub Held : Sort → Type 0
-Held Sort.Point = PointNo
-Held Sort.Line = LineNo
-Held Sort.Value = Float
-Held Sort.Axis = ℕ
-Held Sort.Side = Float
-Held Sort.Radius = Rad
-Held Sort.Contact = Contact
+abbrev pub Stands : Sort → Type 0
+Stands Sort.Point = PointNo
+Stands Sort.Line = LineNo
+Stands Sort.Value = Float
+Stands Sort.Axis = ℕ
+Stands Sort.Side = Float
+Stands Sort.Radius = Rad
+Stands Sort.Contact = Contact
 
-abbrev pub fieldOf : (f : Sort) → Held f → Field
+abbrev pub fieldOf : (f : Sort) → Stands f → Field
 fieldOf Sort.Point p = point p
 fieldOf Sort.Line l = line l
 fieldOf Sort.Value v = value v
@@ -145,7 +145,7 @@ fieldOf Sort.Contact k = contact k
 
 abbrev pub Row : List Sort → Type 0
 Row [] = Unit {0}
-Row (f ∷ l) = Held f × Row l
+Row (f ∷ l) = Stands f × Row l
 
 abbrev pub rowFields : (l : List Sort) → Row l → List Field
 rowFields [] m = []

@@ -9,7 +9,7 @@ use Rattle.loops.proofs.Parts.{front}
 use Rattle.groups.proofs.Counted.{taken}
 use Rattle.members.proofs.Sized.{sized}
 use Rattle.rounds.proofs.Begins.{begun}
-use Rattle.rounds.specs.Held.{Begun}
+use Rattle.rounds.specs.Inside.{Begun}
 use Rattle.fit.proofs.Shows.{worst-is}
 use borrow.Author.Needs.{needs}
 use Rattle.fit.proofs.fits.worst.Statement.{statement}

@@ -15,7 +15,7 @@ use Rattle.phrases.proofs.fields.rad.Statement.{statement}
 use Rattle.phrases.proofs.fields.rad.Tie as tie
 
 by-point : (s : List ℕ) (c w : Cursor) (p : WholeRead) → w ≡ wordAt s c (44 ∷ 112 ∷ []) → w .ok ≡ true → p ≡ numberAt s w
-    → record { held = operand (p .value) zero⁺ 1; next = p .next } ≡ radAt s c
+    → record { read = operand (p .value) zero⁺ 1; next = p .next } ≡ radAt s c
 unfolding radAt
 by-point s c w p ew t ep = pick-yes _ _ _ _ (sym (ap (λ (x : Cursor). x .ok) ew) ∙ t) (rw (ep, ew))
 

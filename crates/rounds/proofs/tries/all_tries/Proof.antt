@@ -7,7 +7,7 @@ use native.Mathlib.Omega.{arith}
 use lib.Ieee.{Float}
 use lib.ListN.{length}
 use borrow.Author.Needs.{needs}
-use Rattle.rounds.specs.Held.{begunFit, triesAt}
+use Rattle.rounds.specs.Inside.{begunFit, triesAt}
 use Rattle.rounds.specs.Problem.{rowCount, problemOf, stateOf, triedOf}
 use Rattle.rounds.specs.Solve.{Problem, State, Tried, tryOf, triesOf}
 use Rattle.rounds.proofs.Around.{product-found, diagonal-found}
