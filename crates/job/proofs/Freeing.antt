@@ -1,12 +1,11 @@
 -- The freedom of a group, and of the points in no group. Assumes nothing.
 use Prim.Native.Nat.{ℕ, _+_, _≤_, _<_}
-use mathlib.Core.Bool.{Bool, true, false, cond, not, _&&_}
+use mathlib.Core.Bool.{Bool, true, false, cond}
 use mathlib.Core.List.{List}
 use mathlib.Core.Path.{_≡_, refl, _∙_}
 use native.Mathlib.Nat.{sub-le}
 use native.Mathlib.Omega.{arith}
 use borrow.Author.Tests.{le-ltb}
-use lib.Dec.{eqb}
 use lib.Ieee.{Float}
 use lib.ListN.{length, getD, length-take}
 use Rattle.fit.specs.Fits.{freedomOf}
@@ -16,11 +15,11 @@ use Rattle.fit.specs.declared.Frame.{Frame}
 use Rattle.loops.proofs.Parts.{any-default}
 use Rattle.loops.specs.Turns.{upTo}
 use Rattle.loops.proofs.Turning.{upTo-next}
-use Rattle.members.specs.Movable.{fixedOf, nowhere, indicesOf}
+use Rattle.members.specs.Movable.{nowhere, indicesOf}
 use Rattle.sketch.specs.declared.Build.{Build}
 use Rattle.sketch.specs.declared.Point.{Point}
 use Rattle.fit.specs.Groups.{freedomIn}
-use Rattle.job.specs.Groups.{countOf, looseIn, looseAt}
+use Rattle.job.specs.Groups.{countOf, looseBy, looseIn, looseAt}
 
 -- areas that are long enough
 pub roomy : (p q r : List Float) → 6400 ≤ length p → 6400 ≤ length q → 6400 ≤ length r → short p q r ≡ false
@@ -50,9 +49,10 @@ module _ (b : Build) (f : Frame) (x p q r p′ q′ r′ : List Float) (t : Degr
       let k : freedomOf b f x ≤ 80 = omega (arith, less, length-take (f .free .count) (f .free .items)) in
       rw freedom-is (at-most (frameOverRows b f) (freedomOf b f x) k)
 
+-- within the arrays the default is not asked for
 pub loose-is : (points : List Point) (of : List ℕ) (d : Point) (v : ℕ) (p : ℕ) (o : Bool) → length points ≡ 40 → length of ≡ 40 → p < 40
-    → o ≡ fixedOf (getD points p d) → eqb (getD of p v) 40 && not o ≡ looseIn points of p
-loose-is points of d v p o l m h e = rw (e, any-default points p d nowhere (rw l h), any-default of p v 0 (rw m h))
+    → o ≡ looseBy (getD points p d) (getD of p v) → o ≡ looseIn points of p
+loose-is points of d v p o l m h e = e ∙ rw (any-default points p d nowhere (rw l h), any-default of p v 0 (rw m h))
 
 pub loose-turn : (points : List Point) (of : List ℕ) (n p k k′ R : ℕ) (o : Bool) → p < n → k′ ≡ cond o (k + 1) k → o ≡ looseIn points of p
     → upTo n p (looseAt points of) k ≡ R → upTo n (p + 1) (looseAt points of) k′ ≡ R

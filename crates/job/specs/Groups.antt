@@ -63,8 +63,11 @@ stepBy b f g d (converged x i t) = fits (takenOf b f g (padded (length (startIn 
 stepBy b f g d (failed i t) = fails g i t
 
 -- free, and in no group
+abbrev pub looseBy : Point → ℕ → Bool
+looseBy q group = eqb group 40 && not (fixedOf q)
+
 abbrev pub looseIn : List Point → List ℕ → ℕ → Bool
-looseIn points of p = eqb (getD of p 0) 40 && not (fixedOf (getD points p nowhere))
+looseIn points of p = looseBy (getD points p nowhere) (getD of p 0)
 
 unfoldable pub looseAt : List Point → List ℕ → ℕ → ℕ → ℕ
 looseAt points of p n = cond (looseIn points of p) (n + 1) n

@@ -4,7 +4,7 @@ ghost use mathlib.Core.Bool.{cond};
 ghost use Prim.Native.Nat.{_+_, _≤_, _<_};
 ghost use lib.ListN.{length};
 ghost use Rattle.fit.specs.Groups.{freedomIn};
-ghost use Rattle.job.specs.Groups.{countOf, looseIn, looseCount};
+ghost use Rattle.job.specs.Groups.{countOf, looseBy, looseCount};
 use fit::Degrees;
 use fit::Frame;
 use groups::Grouping;
@@ -37,12 +37,10 @@ pub(crate) fn freedom_at(
     count(fit::freedom(b, f, x, p, q, r))
 }
 
-fn is_loose(points: [Point; 40], of_point: [usize; 40], p: usize) -> bool
-    requires { ⌜ p < 40 ⌝ }
-    ensures { λ t. ⌜ t ≡ looseIn points «of_point» p ⌝ }
+fn is_loose(q: Point, group: usize) -> bool
+    ensures { λ t. ⌜ t ≡ looseBy q group ⌝ }
 {
-    let q = points[p];
-    (of_point[p] == NO_GROUP) & !members::fixed(q)
+    (group == NO_GROUP) & !members::fixed(q)
 }
 
 fn counted(k: usize, wanted: bool) -> usize
@@ -62,7 +60,10 @@ pub(crate) fn loose(b: Build, gr: Grouping) -> usize
     let n = b.point_count;
     let mut k = 0;
     for p in 0..n {
-        k = counted(k, is_loose(points, of_point, p));
+        // Looked up here: a call that takes the arrays copies them for each point.
+        let q = points[p];
+        let group = of_point[p];
+        k = counted(k, is_loose(q, group));
     }
     k
 }
