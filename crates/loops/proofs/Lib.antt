@@ -5,9 +5,11 @@
 --     Cells     the places of a table that lies in a slice row after row
 --     Parts     a part of a slice that is lent and comes back
 --     Turning   the laws of a loop's turns and of its end
+--     Both      two loops side by side
 pub mod Keeps
 pub mod Writes
 pub mod Picks
 pub mod Cells
 pub mod Parts
 pub mod Turning
+pub mod Both

@@ -1,12 +1,12 @@
 -- The loops of specs/Turns.antt, turn by turn. Each has a law for a turn (-next), for an early way out (-stop) and for the end (-done).
 -- R is what the whole loop gives, so an invariant says "what is left gives R", which holds at the start by `refl`. `upTo-part` says a loop
--- on a part as a loop on the whole, `upTo-same` that loops whose turns do the same do the same, and `fold-append` that two lists are gone
--- over one after the other. Assumes nothing.
+-- on a part as a loop on the whole, `upTo-split` a loop as two, one after the other, and `fold-append` that two lists are gone over one
+-- after the other. Assumes nothing.
 use Prim.Native.Nat.{ℕ, zero, suc, _+_, _-_, _≤_, _<_}
 use mathlib.Core.Bool.{Bool, true, false}
 use mathlib.Core.List.{List, [], _∷_, _++_}
 use mathlib.Core.Path.{_≡_, refl, sym, _∙_}
-use native.Mathlib.Nat.{add-assoc}
+use native.Mathlib.Nat.{add-assoc, add-zero, zero-add, suc-add}
 use native.Mathlib.Numerals.{add-one}
 use native.Mathlib.Omega.{arith}
 use lib.ListN.{length, getD, drop, drop-of-length-le}
@@ -48,16 +48,19 @@ module _ {S : Type 0} (f : ℕ → S → S) where
   unfolding downTo
   downTo-done i s R h r = let e : i ≡ 0 = omega arith in rw e at r
 
--- two loops whose turns do the same do the same
-module _ {S : Type 0} (f g : ℕ → S → S) (lo : ℕ) (turn : (i : ℕ) (s : S) → lo ≤ i → f i s ≡ g i s) where
-  turns-same : (k i : ℕ) (s : S) → lo ≤ i → turns k i f s ≡ turns k i g s
+-- the turns up to mid, and then those from there on
+module _ {S : Type 0} (f : ℕ → S → S) where
+  turns-split : (j k i : ℕ) (s : S) → turns (j + k) i f s ≡ turns k (i + j) f (turns j i f s)
   unfolding turns
-  turns-same zero i s h = refl
-  turns-same (suc k) i s h = rw (turn i s h) (turns-same k (i + 1) (g i s) (omega arith))
+  turns-split zero k i s = rw (zero-add, add-zero)
+  turns-split (suc j) k i s = let e : (i + 1) + j ≡ i + suc j = omega arith in rw (suc-add, ← e) (turns-split j k (i + 1) (f i s))
 
-  pub upTo-same : (hi : ℕ) (s : S) → upTo hi lo f s ≡ upTo hi lo g s
+  pub upTo-split : (hi mid lo : ℕ) (s : S) → lo ≤ mid → mid ≤ hi → upTo hi lo f s ≡ upTo hi mid f (upTo mid lo f s)
   unfolding upTo
-  upTo-same hi s = turns-same (hi - lo) lo s (omega arith)
+  upTo-split hi mid lo s h k =
+      let e : hi - lo ≡ (mid - lo) + (hi - mid) = omega arith in
+      let m : lo + (mid - lo) ≡ mid = omega arith in
+      rw e (rw m at (turns-split (mid - lo) (hi - mid) lo s))
 
 -- a loop on a part of the state, t, is the loop on the whole, φ t, if each turn is: the whole's index is the part's past j
 module _ {S T : Type 0} (φ : T → S) (j : ℕ) (f : ℕ → S → S) (g : ℕ → T → T) (turn : (i : ℕ) (t : T) → f (j + i) (φ t) ≡ φ (g i t)) where

@@ -20,6 +20,13 @@ abbrev pub after : {S T : Type 0} → Try S → (S → Try T) → Try T
 after (go s) k = k s
 after stop k = stop
 
+-- two that went on, with R between what they came to, or two that stopped
+abbrev pub InStep : {S T : Type 0} → (S → T → Type 0) → Try S → Try T → Type 0
+InStep R (go s) (go t) = R s t
+InStep R (go s) stop = ⊥
+InStep R stop (go t) = ⊥
+InStep R stop stop = Unit {0}
+
 -- what a function that answers a bool and leaves its state in lent places has come to
 abbrev pub tried : {S : Type 0} → Bool → S → Try S
 tried true s = go s

@@ -18,23 +18,23 @@ use lib.Ieee.{Float, lt, eq}
 use Rattle.floats.specs.Ops.{_⊘_, zero⁺, one}
 use Rattle.loops.proofs.Picks.{either}
 use Rattle.loops.proofs.Cells.{cell-row}
+use Rattle.loops.proofs.Both.{upTo-both, whileTo-both, downTo-same, downTo-foldr}
 use Rattle.loops.proofs.Keeps.{upTo-keeps}
 use Rattle.loops.specs.Turns.{go, stop, upTo}
 use Rattle.root.specs.Root.{sqrtOf}
 use Rattle.solver.specs.Sums.{norm2Of}
 use Rattle.nullspace.specs.Steps.{push, collect, item, rowAt, scaledBy, unitOf, unitAt, colsOf, ended, Qr, qr, turnOf, goes, orAsItIs, decomposed, reflectorsOf, rankOf, reflectBy, basisVector, basisOf}
 use Rattle.nullspace.specs.Layout.{addUnit, unitRows, turns-on, firstOf, turned, LaidQr, laid, laidOn, laidTurn, laidOut, laidRank, laidReflectors, reflectByRow, laidVector, addVector, laidBasis}
-use Rattle.nullspace.proofs.Both.{upTo-both, whileTo-both, downTo-same, downTo-foldr}
 use Rattle.nullspace.proofs.Flat.{Wide, wide-append, flatten-push, length-flatten, row-is, rows-are}
 use Rattle.nullspace.proofs.Reflects.{reflect-length}
 use Rattle.nullspace.proofs.Turned as turn
 
 -- ---- rows that are collected
 
-collect-laid : (f : ℕ → List Float) (g : ℕ → List Float → List Float) → ((i : ℕ) (w : List Float) → g i w ≡ w ++ f i) → (lo hi : ℕ) → lo ≤ hi
+collect-laid : (f : ℕ → List Float) (g : ℕ → List Float → List Float) → ((i : ℕ) (w : List Float) → g i w ≡ w ++ f i) → (lo hi : ℕ)
     → upTo hi lo g [] ≡ flatten (collect lo hi f)
 unfolding collect push flatten
-collect-laid f g one lo hi h = upTo-both (λ w l. w ≡ flatten l) g (push f) hi (λ i w l k e. one i w ∙ ap (λ r. r ++ f i) e ∙ sym (flatten-push l (f i))) lo [] [] h refl
+collect-laid f g one lo hi = upTo-both (λ w l. w ≡ flatten l) g (push f) lo hi (λ i w l h k e. one i w ∙ ap (λ r. r ++ f i) e ∙ sym (flatten-push l (f i))) [] [] refl
 
 module _ (f : ℕ → List Float) (n lo hi : ℕ) (h : lo ≤ hi) (long : (i : ℕ) → i < hi → length (f i) ≡ n) where
   one-more : (i : ℕ) (l : List (List Float)) → i < hi → Wide n l × (lo + length l ≡ i) → Wide n (push f i l) × (lo + length (push f i l) ≡ i + 1)
@@ -49,7 +49,7 @@ module _ (f : ℕ → List Float) (n lo hi : ℕ) (h : lo ≤ hi) (long : (i : �
 
 pub cols-laid : (rows n : ℕ) (m : List Float) → unitRows rows n m ≡ flatten (colsOf rows n m)
 unfolding unitRows colsOf addUnit
-cols-laid rows n m = collect-laid (unitAt n m) (addUnit n m) (λ i w. refl) 0 rows (omega arith)
+cols-laid rows n m = collect-laid (unitAt n m) (addUnit n m) (λ i w. refl) 0 rows
 
 unit-long : (row : List Float) → length (unitOf row) ≡ length row
 unfolding unitOf scaledBy
@@ -228,11 +228,11 @@ module _ (n : ℕ) (rs : List (List Float)) (wide : Wide n rs) (few : length rs 
   unfolding laidVector basisVector
   vector-is j =
       let e : List Float = set (replicate n zero⁺) j one in
-      downTo-same (reflectByRow n (flatten rs)) (λ r. reflectBy (item rs r)) by-row (length rs) e ∙ downTo-foldr reflectBy [] rs e
+      downTo-same (reflectByRow n (flatten rs)) (λ r. reflectBy (item rs r)) (length rs) (λ r e h. by-row r e) e ∙ downTo-foldr reflectBy [] rs e
 
   pub basis-laid : laidBasis n (length rs) (flatten rs) ≡ flatten (basisOf n rs)
   unfolding laidBasis basisOf addVector
-  basis-laid = collect-laid (basisVector n rs) (addVector n (length rs) (flatten rs)) (λ j l. ap (λ r. l ++ r) (vector-is j)) (length rs) n few
+  basis-laid = collect-laid (basisVector n rs) (addVector n (length rs) (flatten rs)) (λ j l. ap (λ r. l ++ r) (vector-is j)) (length rs) n
 
   vector-long : (j : ℕ) → length (basisVector n rs j) ≡ n
   unfolding basisVector

@@ -1,7 +1,6 @@
 -- From the rows of one list, which the code has, to the lists of lists that the definition has.
 --     Built      rows that are read and written one after another
 --     Flat       rows of n numbers as a list of lists, and flattened
---     Both       two loops side by side
 --     Zips       loops by index as what they come to
 --     Reflects   a row reflected
 --     Swaps      two rows changed
@@ -10,7 +9,6 @@
 --     Checking   the table for a call on a bare matrix, case by case
 pub mod Built
 pub mod Flat
-pub mod Both
 pub mod Zips
 pub mod Reflects
 pub mod Swaps

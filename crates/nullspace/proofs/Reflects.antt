@@ -9,13 +9,13 @@ use lib.ListN.{length, set, length-append, length-set, List·getD-append}
 use lib.Seq.{set-append-left}
 use lib.Ieee.{Float, nan, ne}
 use Rattle.floats.specs.Ops.{_⊖_, _⊗_, _⊘_, zero⁺, zero⁻, two}
+use Rattle.loops.proofs.Both.{upTo-both, upTo-same}
 use Rattle.loops.proofs.Parts.{get-past, set-past}
 use Rattle.loops.proofs.Picks.{either, of-cond}
 use Rattle.loops.specs.Turns.{turns, upTo}
 use Rattle.solver.specs.Steps.{at, lessPast}
 use Rattle.nullspace.specs.Steps.{dotOf, lessAll, reflectOf}
 use Rattle.nullspace.specs.Layout.{addProduct, lessBy, addProductAt, dotAt, lessRowAt, reflectAt, reflectedBy}
-use Rattle.nullspace.proofs.Both.{upTo-both}
 use Rattle.nullspace.proofs.Flat.{Wide}
 use Rattle.nullspace.proofs.Zips.{zip-long, zip-dot, zip-less}
 
@@ -51,20 +51,20 @@ module _ (n j : ℕ) (v p b : List Float) (wide : length v ≡ n) (front : lengt
   set-c c i x h = rw (parted c) (set-past (v ++ p) (c ++ b) (j * n) i x front ∙ ap (λ r. v ++ p ++ r) (set-append-left c b i x h) ∙ append-assoc v p (set c i x ++ b))
 
   module _ (c : List Float) (same : length c ≡ n) where
-    product : (i : ℕ) (s t : Float) → i < n → s ≡ t → addProductAt n j (whole c) i s ≡ addProduct v c i t
+    product : (i : ℕ) (s : Float) → i < n → addProductAt n j (whole c) i s ≡ addProduct v c i s
     unfolding addProductAt addProduct
-    product i s t h e = rw (get-v c i h, get-c c i (rw same h), e)
+    product i s h = rw (get-v c i h, get-c c i (rw same h))
 
     dot-is : dotAt n j (whole c) ≡ dotOf v c
     unfolding dotAt
-    dot-is = upTo-both (λ s t. s ≡ t) (addProductAt n j (whole c)) (addProduct v c) n product 0 zero⁻ zero⁻ (omega arith) refl ∙ zip-dot n v c wide same
+    dot-is = upTo-same (addProductAt n j (whole c)) (addProduct v c) 0 n (λ i s h. product i s) zero⁻ ∙ zip-dot n v c wide same
 
     less : (f : Float) (i : ℕ) (s t : List Float) → i < n → (s ≡ whole t) × (length t ≡ n) → (lessPast (j * n) f i s ≡ whole (lessBy v f i t)) × (length (lessBy v f i t) ≡ n)
     unfolding lessPast lessBy
     less f i s t h e = (rw (e .0, get-v t i h, get-c t i (rw (e .1) h)) (set-c t i _ (rw (e .1) h)), length-set t i _ ∙ e .1)
 
     less-is : (f : Float) → upTo n 0 (lessPast (j * n) f) (whole c) ≡ whole (upTo n 0 (lessBy v f) c)
-    less-is f = upTo-both (λ s t. (s ≡ whole t) × (length t ≡ n)) (lessPast (j * n) f) (lessBy v f) n (less f) 0 (whole c) c (omega arith) (refl, same) .0
+    less-is f = upTo-both (λ s t. (s ≡ whole t) × (length t ≡ n)) (lessPast (j * n) f) (lessBy v f) 0 n (λ i s t h. less f i s t) (whole c) c (refl, same) .0
 
     less-row-is : (f : Float) → lessRowAt n j f (whole c) ≡ whole (lessAll v f c)
     unfolding lessRowAt lessAll

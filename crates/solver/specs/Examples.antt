@@ -6,7 +6,8 @@ use Rattle.floats.specs.Lists.{swapAt}
 use Rattle.floats.specs.Ops.{zero⁺, zero⁻, one}
 use Rattle.floats.specs.Magnitude.{magnitudeOf, maxOf}
 use Rattle.loops.specs.Turns.{go, turns, upTo, downTo, tries, tryTo, fold, every}
-use Rattle.solver.specs.Steps.{scaleOf, largerRow, pivotOf, swapColumn, swapped, lessAt, lessRow, rowOf, belowOf, singular, columnOf, eliminatedOf, addTerm, sumOf, backAt, backOf, allFinite, solutionOf}
+use Rattle.solver.specs.Lesser.{partSwapped, lesserSwapped, lesserColumn, lesserEliminated}
+use Rattle.solver.specs.Steps.{Sys, sys, scaleOf, largerRow, pivotOf, swapColumn, swapped, lessAt, lessRow, rowOf, belowOf, singular, columnOf, eliminatedOf, addTerm, sumOf, backAt, backOf, allFinite, solutionOf}
 
 abbrev three : Float
 three = ofBits binary64 0x4008_0000_0000_0000
@@ -21,3 +22,15 @@ pub worked :
     × (solutionOf 1 (one ∷ []) (zero⁻ ∷ []) ≡ go (zero⁺ ∷ []))
 unfolding solutionOf allFinite backOf backAt sumOf addTerm eliminatedOf columnOf singular belowOf rowOf lessRow lessAt swapped swapColumn swapAt pivotOf largerRow scaleOf every fold tryTo tries downTo upTo turns maxOf magnitudeOf isNan toBits ofBits add sub mul div lt eq le
 worked = (refl, refl)
+
+abbrev crossed : Sys
+crossed = sys (one ∷ zero⁺ ∷ zero⁺ ∷ zero⁻ ∷ zero⁺ ∷ one ∷ zero⁺ ∷ one ∷ zero⁺ ∷ []) (one ∷ three ∷ four ∷ [])
+
+-- Two rows change places in the second column: the definition takes along what lies left of it, −0.0 and +0.0, the code leaves it.
+pub left-behind :
+    (eliminatedOf 3 crossed
+    ≡ go (sys (one ∷ zero⁺ ∷ zero⁺ ∷ zero⁺ ∷ one ∷ zero⁺ ∷ zero⁻ ∷ zero⁺ ∷ one ∷ []) (one ∷ four ∷ three ∷ [])))
+    × (lesserEliminated 3 crossed
+    ≡ go (sys (one ∷ zero⁺ ∷ zero⁺ ∷ zero⁻ ∷ one ∷ zero⁺ ∷ zero⁺ ∷ zero⁺ ∷ one ∷ []) (one ∷ four ∷ three ∷ [])))
+unfolding eliminatedOf lesserEliminated columnOf lesserColumn singular belowOf rowOf lessRow lessAt swapped lesserSwapped partSwapped swapColumn swapAt pivotOf largerRow scaleOf fold tryTo tries upTo turns maxOf magnitudeOf isNan toBits ofBits add sub mul div lt eq le
+left-behind = (refl, refl)

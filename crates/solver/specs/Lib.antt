@@ -1,5 +1,6 @@
 pub mod Sums
 pub mod Steps
+pub mod Lesser
 pub mod Candidate
 pub mod Promise
 pub mod Examples

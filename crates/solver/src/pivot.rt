@@ -4,9 +4,10 @@ ghost use Prim.Native.Nat.{_+_, _*_, _≤_, _<_};
 ghost use mathlib.Core.Bool.{false};
 ghost use lib.Ieee.{isNan};
 ghost use lib.ListN.{length};
-ghost use Rattle.loops.specs.Turns.{tried, upTo};
+ghost use Rattle.loops.specs.Turns.{tried};
 ghost use Rattle.solver.specs.Candidate.{Sized};
-ghost use Rattle.solver.specs.Steps.{sys, largerOf, scaleOf, largerRow, pivotOf, swapColumn, swapped, columnOf, eliminatedOf};
+ghost use Rattle.solver.specs.Lesser.{partSwapped, lesserSwapped, lesserColumn, lesserEliminated};
+ghost use Rattle.solver.specs.Steps.{sys, largerOf, scaleOf, largerRow, pivotOf};
 use crate::below;
 
 // The largest magnitude, NaN skipped, at least 1e-300.
@@ -61,31 +62,37 @@ fn larger_row(a: &[f64], n: usize, col: usize, q: usize, p: Candidate) -> Candid
     }
 }
 
-fn swap_rows(a: &mut [f64], n: usize, p: usize, q: usize)
-    requires { ⌜ ((p < n) × (q < n)) × (n * n ≤ length (now a)) ⌝ }
-    ensures { λ _. ⌜ now (a .exit) ≡ upTo n 0 (swapColumn n p q) (now (a .entry)) ⌝ }
+// The rows `piv` and `col` from column `col` on: left of it neither is read again. Written out, since `floats::swap` tests its places at
+// every turn.
+fn swap_rows(a: &mut [f64], n: usize, col: usize, piv: usize)
+    requires { ⌜ ((piv < n) × (col < n)) × (n * n ≤ length (now a)) ⌝ }
+    ensures { λ _. ⌜ now (a .exit) ≡ partSwapped n col piv (now (a .entry)) ⌝ }
 {
-    for c in 0..n {
-        floats::swap(a, p * n + c, q * n + c);
+    for c in col..n {
+        let p = piv * n + c;
+        let q = col * n + c;
+        let x = a[p];
+        a[p] = a[q];
+        a[q] = x;
     }
 }
 
 // Brings the pivot's row to `col`, in the matrix and in the right side.
 fn swap_in(a: &mut [f64], b: &mut [f64], n: usize, col: usize, piv: usize)
     requires { ⌜ ((piv < n) × (col < n)) × ((n * n ≤ length (now a)) × (n ≤ length (now b))) ⌝ }
-    ensures { λ _. ⌜ sys (now (a .exit)) (now (b .exit)) ≡ swapped n col piv (sys (now (a .entry)) (now (b .entry))) ⌝ }
+    ensures { λ _. ⌜ sys (now (a .exit)) (now (b .exit)) ≡ lesserSwapped n col piv (sys (now (a .entry)) (now (b .entry))) ⌝ }
 {
     if piv == col {
         return;
     }
-    swap_rows(a, n, piv, col);
+    swap_rows(a, n, col, piv);
     floats::swap(b, piv, col);
 }
 
 // Clears column `col` below its pivot; false where there is no pivot, and then nothing is said of what is left.
 fn column(a: &mut [f64], b: &mut [f64], n: usize, scale: f64, col: usize) -> bool
     requires { ⌜ (col < n) × ((n * n ≤ length (now a)) × (n ≤ length (now b))) ⌝ }
-    ensures { λ r. ⌜ tried r (sys (now (a .exit)) (now (b .exit))) ≡ columnOf n scale col (sys (now (a .entry)) (now (b .entry))) ⌝ }
+    ensures { λ r. ⌜ tried r (sys (now (a .exit)) (now (b .exit))) ≡ lesserColumn n scale col (sys (now (a .entry)) (now (b .entry))) ⌝ }
 {
     let piv = pivot_row(a, n, col);
     if floats::abs(a[piv * n + col]) <= scale * 1e-15 {
@@ -99,7 +106,7 @@ fn column(a: &mut [f64], b: &mut [f64], n: usize, scale: f64, col: usize) -> boo
 // Brings the matrix to upper triangular form; false where it is singular.
 pub(crate) fn eliminate(a: &mut [f64], b: &mut [f64], n: usize) -> bool
     requires { ⌜ (n * n ≤ length (now a)) × (n ≤ length (now b)) ⌝ }
-    ensures { λ r. ⌜ tried r (sys (now (a .exit)) (now (b .exit))) ≡ eliminatedOf n (sys (now (a .entry)) (now (b .entry))) ⌝ }
+    ensures { λ r. ⌜ tried r (sys (now (a .exit)) (now (b .exit))) ≡ lesserEliminated n (sys (now (a .entry)) (now (b .entry))) ⌝ }
 {
     let s = scale(a);
     for col in 0..n {

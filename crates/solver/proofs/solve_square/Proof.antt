@@ -1,13 +1,16 @@
--- Elimination stops the whole, or its system is solved from the last row up and looked through. Assumes nothing.
+-- Elimination stops the whole, or its system is solved from the last row up and looked through; by the lesser exchange that comes to the
+-- definition's solution. Assumes nothing.
 use Prim.Native.Nat.{ℕ}
 use mathlib.Core.Bool.{Bool, true, false, cond}
 use mathlib.Core.List.{List}
-use mathlib.Core.Path.{_≡_, refl, ap, _∙_}
+use mathlib.Core.Path.{_≡_, refl, _∙_}
 use lib.Ieee.{Float}
 use lib.Ieee.Scale.{finite}
 use borrow.Author.Tests.{not-true, not-false}
 use Rattle.loops.specs.Turns.{go, stop, after, tried, every}
-use Rattle.solver.specs.Steps.{sys, eliminatedOf, backOf, allFinite, solutionOf}
+use Rattle.solver.specs.Lesser.{lesserEliminated}
+use Rattle.solver.specs.Steps.{sys, backOf, allFinite, solutionOf}
+use Rattle.solver.proofs.Lesser.{same-solution}
 use borrow.Author.Needs.{needs}
 use Rattle.solver.proofs.solve_square.Statement.{statement}
 use Rattle.solver.proofs.solve_square.Tie as tie
@@ -16,14 +19,16 @@ tried-is : (t : Bool) (y : List Float) → tried t y ≡ cond t (go y) stop
 tried-is true y = refl
 tried-is false y = refl
 
-module _ (n : ℕ) (a b a₁ b₁ : List Float) (ok : Bool) (done : tried ok (sys a₁ b₁) ≡ eliminatedOf n (sys a b)) where
+module _ (n : ℕ) (a b a₁ b₁ : List Float) (ok : Bool) (done : tried ok (sys a₁ b₁) ≡ lesserEliminated n (sys a b)) where
+  from-here : after (tried ok (sys a₁ b₁)) (λ s. allFinite (backOf n s)) ≡ solutionOf n a b
+  from-here = rw done (same-solution n a b)
+
   none : ok ≡ false → stop ≡ solutionOf n a b
-  unfolding solutionOf
-  none t = ap (λ s. after s (λ s. allFinite (backOf n s))) (rw t at done)
+  none t = rw t at from-here
 
   some : (y : List Float) (t : Bool) → ok ≡ true → y ≡ backOf n (sys a₁ b₁) → t ≡ every finite y → tried t y ≡ solutionOf n a b
-  unfolding solutionOf allFinite
-  some y t o e f = tried-is t y ∙ rw (f, e) (ap (λ s. after s (λ s. allFinite (backOf n s))) (rw o at done))
+  unfolding allFinite
+  some y t o e f = tried-is t y ∙ rw (f, e) (rw o at from-here)
 
 returns : tie.Need-returns
 returns c = none _ _ _ (c .before .before .before .before .before .eliminate .last .0) (c .before .before .before .before .before .eliminate .last .1 .0) (c .before .before .before .before .before .eliminate .result) (c .before .before .before .before .before .eliminate .ensures) (not-true _ (c .if1 .taken))

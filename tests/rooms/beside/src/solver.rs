@@ -6,18 +6,24 @@ use std::process::ExitCode;
 use std::time::Instant;
 
 use chance::Rng;
+use counted::counters;
+use oracle::generate::{Exchange, exchanges};
 use plain::bare;
 use rooms::{NONE, REFUSED, SOLVED, Tally, one_nan, same};
 
 const TOO_MANY: u8 = job::TOO_MANY;
 const TOO_SHORT: u8 = job::TOO_SHORT;
 /// The kinds of tables, as `table` makes them.
-const KINDS: usize = 10;
+const KINDS: usize = 11;
 const ANY_BITS: usize = 7;
 const PRODUCT: usize = 9;
+const TRADING: usize = 10;
 
 pub fn compare(count: u64, seed: u64) -> ExitCode {
     let (mut tally, mut nans) = (Tally::default(), 0);
+    for case in exchanges() {
+        tally.note(exchange(&case), || case.name.to_string());
+    }
     for i in 0..count {
         let rng = &mut Rng::new(seed, i);
         let (kind, n) = ((i / 81) as usize % KINDS, i as usize % 81);
@@ -65,6 +71,7 @@ fn table(rng: &mut Rng, kind: usize, rows: usize, cols: usize) -> Vec<f64> {
         6 if rows * cols > 0 => (0..rng.between(1, 4)).for_each(|_| a[rng.below(rows * cols)] = special(rng)),
         8 if rows * cols > 0 => edge(rng, &mut a, rows, cols),
         PRODUCT if rows == cols => a = product(&a, rows),
+        TRADING if rows == cols => trading(rng, &mut a, rows),
         _ => {}
     }
     a
@@ -105,6 +112,11 @@ fn product(j: &[f64], n: usize) -> Vec<f64> {
     (0..n * n).map(|at| dot(at / n, at % n) + if at / n == at % n { 1e-10 } else { 0.0 }).collect()
 }
 
+/// In each column one place outweighs all others, and it is in the row before: rows trade places in every column but the last.
+fn trading(rng: &mut Rng, a: &mut [f64], n: usize) {
+    (0..n).for_each(|r| a[r * n + (r + 1) % n] = rng.sign() * (n as f64 + 1.0));
+}
+
 /// Places past the shape, of any bits.
 fn lengthened(rng: &mut Rng, mut places: Vec<f64>) -> Vec<f64> {
     let more = rng.pick(&[0, 0, 1, 7]);
@@ -116,23 +128,41 @@ fn elimination(rng: &mut Rng, kind: usize, n: usize) -> bool {
     let matrix = table(rng, kind, n, n);
     let right_kind = rng.pick(&[0, 1, 5, ANY_BITS]);
     let right = table(rng, right_kind, n, 1);
-    let (mut a, mut b) = (lengthened(rng, matrix.clone()), lengthened(rng, right.clone()));
+    let trades = kind != TRADING || traded(&matrix, &right, n).into_iter().eq(0..n.saturating_sub(1));
+    let (mut a, mut b) = (lengthened(rng, matrix), lengthened(rng, right));
     match rng.below(40) {
         0 if n > 0 => a.truncate(n * n - 1),
         1 if n > 0 => b.truncate(n - 1),
         _ => {}
     }
+    trades && eliminated(a, b, n)
+}
+
+/// The answer and every lent place.
+fn eliminated(mut a: Vec<f64>, mut b: Vec<f64>, n: usize) -> bool {
     let (mut their_a, mut their_b) = (a.clone(), b.clone());
     let theirs = if a.len() < n * n || b.len() < n {
         TOO_SHORT
     } else {
-        let answer = bare::eliminate(matrix, right, n);
+        let answer = bare::eliminate(a[..n * n].to_vec(), b[..n].to_vec(), n);
         their_a[..n * n].fill(0.0);
         their_b[..n].copy_from_slice(answer.as_deref().unwrap_or(&vec![0.0; n]));
         if answer.is_some() { SOLVED } else { NONE }
     };
     let ours = rooms::solve_dense(&mut a, &mut b, n);
     ours == theirs && same(&a, &their_a) && same(&b, &their_b)
+}
+
+/// An elimination that must trade rows in just the columns that are named.
+fn exchange(case: &Exchange) -> bool {
+    traded(&case.a, &case.b, case.n) == case.columns && eliminated(case.a.clone(), case.b.clone(), case.n)
+}
+
+/// The columns in which the Rust's elimination trades rows, counted from 0.
+fn traded(a: &[f64], b: &[f64], n: usize) -> Vec<usize> {
+    counters::reset();
+    counted::bare::eliminate(a[..n * n].to_vec(), b[..n].to_vec(), n);
+    counters::exchanges()
 }
 
 fn too_many(rng: &mut Rng) -> bool {
@@ -194,19 +224,21 @@ fn figures(rng: &mut Rng, kind: usize, n: usize) -> bool {
 }
 
 fn time() {
-    for n in [10, 40, 64] {
-        let [ours, theirs] = timed_elimination(n);
-        println!("elimination at {n}: {ours:.0} ns beside the Rust's {theirs:.0} ns, {:.2} of its time", ours / theirs);
+    for (kind, which) in [(PRODUCT, ""), (TRADING, ", rows traded in every column but the last")] {
+        for n in [10, 40, 64] {
+            let [ours, theirs] = timed_elimination(kind, n);
+            println!("elimination at {n}{which}: {ours:.0} ns beside the Rust's {theirs:.0} ns, {:.2} of its time", ours / theirs);
+        }
     }
     let [ours, theirs] = timed_space(40, 60);
     println!("null space at 40 x 60: {ours:.0} ns beside the Rust's {theirs:.0} ns, {:.2} of its time", ours / theirs);
 }
 
 /// The least time of one call, in nanoseconds, on each side: turn about, on the same matrices.
-fn timed_elimination(n: usize) -> [f64; 2] {
+fn timed_elimination(kind: usize, n: usize) -> [f64; 2] {
     let (rng, copies, mut least) = (&mut Rng::new(0, n as u64), 20_000 / (n * n) + 4, [f64::INFINITY; 2]);
     for _ in 0..300 {
-        let theirs: Vec<(Vec<f64>, Vec<f64>)> = (0..copies).map(|_| (table(rng, PRODUCT, n, n), table(rng, 0, n, 1))).collect();
+        let theirs: Vec<(Vec<f64>, Vec<f64>)> = (0..copies).map(|_| (table(rng, kind, n, n), table(rng, 0, n, 1))).collect();
         let mut ours = theirs.clone();
         let start = Instant::now();
         for (a, b) in &mut ours {

@@ -10,7 +10,8 @@ use lib.Seq.{getD-take, getD-drop, take-take, take-set-le}
 use borrow.Author.Needs.{needs}
 use Rattle.floats.specs.Ops.{_⊖_, _⊘_, zero⁺, zero⁻}
 use Rattle.loops.specs.Turns.{downTo}
-use Rattle.loops.proofs.Turning.{downTo-next, downTo-done, upTo-same}
+use Rattle.loops.proofs.Both.{upTo-same}
+use Rattle.loops.proofs.Turning.{downTo-next, downTo-done}
 use Rattle.loops.proofs.Cells.{cells}
 use Rattle.loops.proofs.Parts.{get-past}
 use Rattle.solver.specs.Steps.{sys, at, addTerm, sumOf, backAt, backOf}
@@ -30,7 +31,7 @@ same-past r b c h =
 same-sum : (n k r : ℕ) (a b : List Float) → r ≡ suc k → sumOf n k a b ≡ sumOf n k a (so-far r b)
 unfolding sumOf addTerm
 same-sum n k r a b e =
-    upTo-same (addTerm n k a b) (addTerm n k a (so-far r b)) (k + 1) (λ i s h. rw (same-past r b i (omega arith))) n zero⁻
+    upTo-same (addTerm n k a b) (addTerm n k a (so-far r b)) (k + 1) n (λ i s h _. rw (same-past r b i (omega arith))) zero⁻
 
 written : (k : ℕ) (b : List Float) (v : Float) → k < length b → replicate k zero⁺ ++ drop k (set b k v) ≡ set (replicate (suc k) zero⁺ ++ drop (suc k) b) k v
 written k [] v h = absurd (not-suc-le-zero h)

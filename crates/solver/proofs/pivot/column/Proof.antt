@@ -9,19 +9,20 @@ use Rattle.floats.specs.Magnitude.{absOf}
 use Rattle.loops.specs.Turns.{go, stop}
 use Rattle.loops.proofs.Cells.{cells}
 use Rattle.loops.proofs.Picks.{pick-yes, pick-no}
-use Rattle.solver.specs.Steps.{sys, at, pivotOf, swapped, belowOf, singular, columnOf}
+use Rattle.solver.specs.Lesser.{lesserSwapped, lesserColumn}
+use Rattle.solver.specs.Steps.{sys, at, pivotOf, belowOf, singular}
 use borrow.Author.Needs.{needs}
 use Rattle.solver.proofs.pivot.column.Statement.{statement}
 use Rattle.solver.proofs.pivot.column.Tie as tie
 
 module _ (n col piv : ℕ) (scale x : Float) (a b : List Float) (found : piv ≡ pivotOf n col a) (size : x ≡ absOf (at a (piv * n + col))) where
-  none : le x (scale ⊗ 1e-15) ≡ true → stop ≡ columnOf n scale col (sys a b)
-  unfolding columnOf singular
+  none : le x (scale ⊗ 1e-15) ≡ true → stop ≡ lesserColumn n scale col (sys a b)
+  unfolding lesserColumn singular
   none t = pick-yes _ _ _ _ (rw (size, found) at t) refl
 
-  some : (a₁ b₁ a₂ b₂ : List Float) → le x (scale ⊗ 1e-15) ≡ false → sys a₁ b₁ ≡ swapped n col piv (sys a b) → sys a₂ b₂ ≡ belowOf n col (sys a₁ b₁)
-      → go (sys a₂ b₂) ≡ columnOf n scale col (sys a b)
-  unfolding columnOf singular
+  some : (a₁ b₁ a₂ b₂ : List Float) → le x (scale ⊗ 1e-15) ≡ false → sys a₁ b₁ ≡ lesserSwapped n col piv (sys a b) → sys a₂ b₂ ≡ belowOf n col (sys a₁ b₁)
+      → go (sys a₂ b₂) ≡ lesserColumn n scale col (sys a b)
+  unfolding lesserColumn singular
   some a₁ b₁ a₂ b₂ t s l = pick-no _ _ _ _ (rw (size, found) at t) (ap go (l ∙ rw (s, found)))
 
 mul-abs : tie.Need-mul-abs

@@ -5,18 +5,19 @@ use borrow.Author.Needs.{needs}
 use borrow.Author.Tests.{not-true, not-false}
 use Rattle.loops.specs.Turns.{tryTo}
 use Rattle.loops.proofs.Turning.{tryTo-next, tryTo-stop, tryTo-done}
-use Rattle.solver.specs.Steps.{sys, columnOf, eliminatedOf}
+use Rattle.solver.specs.Lesser.{lesserColumn, lesserEliminated}
+use Rattle.solver.specs.Steps.{sys}
 use Rattle.solver.proofs.pivot.eliminate.Statement.{statement}
 use Rattle.solver.proofs.pivot.eliminate.Tie as tie
 
 abbrev Inv-loop : tie.InvT-loop
-Inv-loop a₀ b₀ n s col₀ a b col = (col ≤ n) × ((length a ≡ length a₀) × (length b ≡ length b₀)) × (tryTo n col (columnOf n s) (sys a b) ≡ eliminatedOf n (sys a₀ b₀))
+Inv-loop a₀ b₀ n s col₀ a b col = (col ≤ n) × ((length a ≡ length a₀) × (length b ≡ length b₀)) × (tryTo n col (lesserColumn n s) (sys a b) ≡ lesserEliminated n (sys a₀ b₀))
 
 abbrev μ-loop : tie.MeasureT-loop
 μ-loop a₀ b₀ n s col₀ a b col = n - col
 
 loop-holds : tie.Need-loop-holds Inv-loop μ-loop
-unfolding eliminatedOf
+unfolding lesserEliminated
 loop-holds c = (search needs, (refl, refl), rw (c .scale .ensures))
 
 returns : tie.Need-returns Inv-loop μ-loop

@@ -13,7 +13,7 @@ use job::{Answer, Build, Contact, Equation, Field, Kind, MAX_MAGNITUDE, MIN_SIZE
 use crate::answer::{Checked, checked};
 use crate::calls;
 use crate::figures::{Seen, ending, look, sort};
-use crate::generate::{self, Made};
+use crate::generate::{self, Exchange, Made};
 
 /// Texts to choose from.
 const JOBS: u64 = 20_000;
@@ -71,12 +71,19 @@ fn chosen_jobs(seed: u64) -> Vec<Vec<u8>> {
 
 fn chosen_calls(seed: u64) -> Result<Vec<(Vec<u8>, String)>, String> {
     let (mut shown, mut chosen) = (Traits::new(), Vec::new());
+    let fits = |text: &[u8], reply: &str| text.len() + reply.len() <= LONG_CALL;
     for index in 0..CALLS {
         let made = generate::call(seed, index);
         let reply = calls::answer(&made.text)?;
-        let fits = made.text.len() + reply.len() <= LONG_CALL && reply != calls::NAN;
-        if fits && is_new(&mut shown, call_traits(&made, &reply)) {
+        let sound = fits(&made.text, &reply) && reply != calls::NAN;
+        if sound && is_new(&mut shown, call_traits(&made, &reply)) {
             chosen.push((made.text, reply));
+        }
+    }
+    for text in generate::exchanges().iter().map(Exchange::text) {
+        let reply = calls::answer(&text)?;
+        if fits(&text, &reply) {
+            chosen.push((text, reply));
         }
     }
     Ok(chosen)

@@ -205,7 +205,11 @@ fn eliminate(rng: &mut Rng, n: usize, matrix: Matrix) -> String {
     a.extend(random_matrix(rng, 1, more_a));
     let mut b: Vec<f64> = (0..n).map(|_| right_side(rng)).collect();
     b.extend(random_matrix(rng, 1, more_b));
-    format!("eliminate {n} {} {}\n{}{}", a.len(), b.len(), floats(a), floats(b))
+    elimination(n, &a, &b)
+}
+
+pub fn elimination(n: usize, a: &[f64], b: &[f64]) -> String {
+    format!("eliminate {n} {} {}\n{}{}", a.len(), b.len(), floats(a.iter().copied()), floats(b.iter().copied()))
 }
 
 fn right_side(rng: &mut Rng) -> f64 {
@@ -225,7 +229,7 @@ fn eliminate_signs(rng: &mut Rng) -> String {
     let number = |rng: &mut Rng| if rng.chance(zero) { rng.pick(&[0.0, -0.0]) } else { rng.pick(&[1.0, -1.0, 2.0]) };
     let a: Vec<f64> = (0..n * n).map(|i| if i % (n + 1) == 0 { rng.pick(&[1.0, -1.0, 4.0]) } else { number(rng) }).collect();
     let b: Vec<f64> = (0..n).map(|_| number(rng)).collect();
-    format!("eliminate {n} {} {n}\n{}{}", n * n, floats(a), floats(b))
+    elimination(n, &a, &b)
 }
 
 /// A value, or a neighbour of it.
@@ -245,7 +249,7 @@ fn eliminate_edge(rng: &mut Rng) -> String {
         a[row * n + column] = rng.sign() * if column == place { least } else { scale };
     }
     let b: Vec<f64> = (0..n).map(|_| right_side(rng) * scale).collect();
-    format!("eliminate {n} {} {n}\n{}{}", n * n, floats(a), floats(b))
+    elimination(n, &a, &b)
 }
 
 /// Two rows that part by about as little as null space still tells apart.
