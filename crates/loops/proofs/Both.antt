@@ -4,15 +4,14 @@
 --     whileTo-both  of one that is left where a test fails, which is the same test in both: it holds at the turn they are left at
 --     upTo-same, downTo-same   two loops whose turns do the same do the same
 --     downTo-foldr  a loop over a list from its end
---     after-both    what comes after the two and is the same where R holds is the same
---     set-both      two lists of one length that hold the same at a place hold the same there after a write to both
+--     after-both    what holds of two that are stopped, and of what follows two that went on, holds of what comes after
 use Prim.Native.Nat.{ℕ, zero, suc, _+_, _-_, _≤_, _<_}
 use mathlib.Core.Bool.{Bool, true, false}
 use mathlib.Core.List.{List, [], _∷_, foldr}
 use mathlib.Core.Path.{_≡_, refl, ap, subst, _∙_}
 use native.Mathlib.Nat.{le-refl}
 use native.Mathlib.Omega.{arith}
-use lib.ListN.{length, getD, set}
+use lib.ListN.{length, getD}
 use Rattle.loops.specs.Turns.{Try, go, stop, after, InStep, turns, upTo, downTo, tries, tryTo, whiles, whileTo}
 
 module _ {S T : Type 0} (R : S → T → Type 0) (f : ℕ → S → S) (g : ℕ → T → T) (lo hi : ℕ) (step : (i : ℕ) (s : S) (t : T) → lo ≤ i → i < hi → R s t → R (f i s) (g i t)) where
@@ -28,7 +27,6 @@ module _ {S T : Type 0} (R : S → T → Type 0) (f : ℕ → S → S) (g : ℕ 
 pub upTo-same : {S : Type 0} (f g : ℕ → S → S) (lo hi : ℕ) → ((i : ℕ) (s : S) → lo ≤ i → i < hi → f i s ≡ g i s) → (s : S) → upTo hi lo f s ≡ upTo hi lo g s
 upTo-same f g lo hi turn s = upTo-both (λ s t. s ≡ t) f g lo hi (λ i s t h k e. turn i s h k ∙ ap (g i) e) s s refl
 
--- what comes after the two of them, where P holds of two that are stopped
 module _ {A B S T : Type 0} (R : S → T → Type 0) (P : Try A → Try B → Type 0) (stopped : P stop stop) (k : S → Try A) (l : T → Try B)
     (on : (s : S) (t : T) → R s t → P (k s) (l t)) where
   pub after-both : (x : Try S) (y : Try T) → InStep R x y → P (after x k) (after y l)
@@ -82,13 +80,3 @@ pub downTo-foldr : {A S : Type 0} (g : A → S → S) (d : A) (l : List A) (s : 
 unfolding downTo
 downTo-foldr g d [] s = refl
 downTo-foldr g d (x ∷ l) s = downTo-first (λ i. g (getD (x ∷ l) i d)) (length l) s ∙ ap (g x) (downTo-foldr g d l s)
-
-module _ {A : Type 0} where
-  pub set-both : (l m : List A) (i j : ℕ) (v d : A) → length l ≡ length m → getD l j d ≡ getD m j d → getD (set l i v) j d ≡ getD (set m i v) j d
-  set-both [] [] i j v d n e = e
-  set-both [] (y ∷ m) i j v d n e = absurd (omega (arith, n))
-  set-both (x ∷ l) [] i j v d n e = absurd (omega (arith, n))
-  set-both (x ∷ l) (y ∷ m) zero zero v d n e = refl
-  set-both (x ∷ l) (y ∷ m) zero (suc j) v d n e = e
-  set-both (x ∷ l) (y ∷ m) (suc i) zero v d n e = e
-  set-both (x ∷ l) (y ∷ m) (suc i) (suc j) v d n e = set-both l m i j v d (omega (arith, n)) e

@@ -6,10 +6,11 @@
 --     past-tail    what a is when that part has come back as y
 --     get-past, set-past    a read and a write past the front p of a list
 --     any-default           within a list the default is not asked for
+--     set-both              two lists of one length that hold the same at a place hold the same there after a write to both
 -- Assumes nothing.
-use Prim.Native.Nat.{ℕ, suc, _+_, _-_, _≤_, _<_}
+use Prim.Native.Nat.{ℕ, zero, suc, _+_, _-_, _≤_, _<_}
 use mathlib.Core.List.{List, [], _∷_, _++_, append-nil}
-use mathlib.Core.Path.{_≡_, sym, ap, _∙_}
+use mathlib.Core.Path.{_≡_, refl, sym, ap, _∙_}
 use native.Mathlib.Nat.{suc-add, zero-add}
 use native.Mathlib.Omega.{arith}
 use lib.ListN.{length, getD, take, drop, set, replicate, length-drop, drop-of-length-le}
@@ -50,3 +51,12 @@ module _ {A : Type 0} where
   any-default l i d e h =
       let p : getD l i d ∷ drop (suc i) l ≡ getD l i e ∷ drop (suc i) l = sym (drop-cons l i d h) ∙ drop-cons l i e h in
       cc
+
+  pub set-both : (l m : List A) (i j : ℕ) (v d : A) → length l ≡ length m → getD l j d ≡ getD m j d → getD (set l i v) j d ≡ getD (set m i v) j d
+  set-both [] [] i j v d n e = e
+  set-both [] (y ∷ m) i j v d n e = absurd (omega (arith, n))
+  set-both (x ∷ l) [] i j v d n e = absurd (omega (arith, n))
+  set-both (x ∷ l) (y ∷ m) zero zero v d n e = refl
+  set-both (x ∷ l) (y ∷ m) zero (suc j) v d n e = e
+  set-both (x ∷ l) (y ∷ m) (suc i) zero v d n e = e
+  set-both (x ∷ l) (y ∷ m) (suc i) (suc j) v d n e = set-both l m i j v d (omega (arith, n)) e

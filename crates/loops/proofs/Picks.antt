@@ -1,6 +1,7 @@
 -- A value that a test picks, `cond b x y`, from what the test found. Assumes nothing.
 --     pick-yes, pick-no    v is what the one arm says
 --     either               what holds of both arms holds of what is picked
+--     either-both          what holds between the arms of two holds between what one test picks of them
 --     of-cond              what is made of the picked is picked of what is made
 --     both, none-of-four   two tests that hold together, four that fail together
 --     denied               what a test that fails denies
@@ -19,6 +20,10 @@ pick-no b v x y t e = rw t e
 pub either : {A : Type 0} (P : A → Type 0) (b : Bool) (x y : A) → P x → P y → P (cond b x y)
 either P true x y p q = p
 either P false x y p q = q
+
+pub either-both : {A B : Type 0} (R : A → B → Type 0) (b : Bool) (x y : A) (v w : B) → R x v → R y w → R (cond b x y) (cond b v w)
+either-both R true x y v w p q = p
+either-both R false x y v w p q = q
 
 pub of-cond : {A B : Type 0} (f : A → B) (b : Bool) (x y : A) → cond b (f x) (f y) ≡ f (cond b x y)
 of-cond f true x y = refl

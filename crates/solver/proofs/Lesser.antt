@@ -1,7 +1,6 @@
 -- The lesser exchange comes to the definition's solution (specs/Lesser.antt): each step keeps that the two matrices agree at every place
 -- that is still read, since the exchange of the left part writes none of them. Assumes nothing.
 use Prim.Native.Nat.{ℕ, _+_, _*_, _≤_, _<_}
-use mathlib.Core.Bool.{Bool, true, false, cond}
 use mathlib.Core.List.{List}
 use mathlib.Core.Logic.{inl, inr}
 use mathlib.Core.Path.{_≡_, refl, sym, ap, ap₂, _∙_}
@@ -15,10 +14,11 @@ use Rattle.floats.specs.Lists.{swapAt}
 use Rattle.floats.specs.Magnitude.{absOf, magnitudeOf}
 use Rattle.floats.specs.Ops.{_⊖_, _⊗_, _⊘_, zero⁺, zero⁻, 1e-15}
 use Rattle.loops.specs.Turns.{go, stop, InStep, upTo}
-use Rattle.loops.proofs.Both.{upTo-both, upTo-same, tryTo-both, downTo-same, after-both, set-both}
+use Rattle.loops.proofs.Both.{upTo-both, upTo-same, tryTo-both, downTo-same, after-both}
 use Rattle.loops.proofs.Cells.{cell-column}
 use Rattle.loops.proofs.Keeps.{upTo-keeps}
-use Rattle.loops.proofs.Picks.{either}
+use Rattle.loops.proofs.Parts.{set-both}
+use Rattle.loops.proofs.Picks.{either, either-both}
 use Rattle.loops.proofs.Turning.{upTo-split}
 use Rattle.solver.specs.Lesser.{partSwapped, lesserSwapped, lesserColumn, lesserEliminated, StillRead, ReadAlike, SysAlike, StepsAgree, SameSolution}
 use Rattle.solver.specs.Steps.{Sys, sys, at, scaleOf, largerRow, pivotOf, swapColumn, swapped, lessAt, lessRow, rowOf, belowOf, singular, columnOf, eliminatedOf, addTerm, sumOf, backAt, backOf, allFinite, solutionOf}
@@ -42,14 +42,10 @@ module _ (n col : ℕ) where
 
   -- ---- the rows below the pivot
 
-  pick-alike : (t : Bool) (s s′ u u′ : Sys) → SysAlike n col s s′ → SysAlike n col u u′ → SysAlike n col (cond t s u) (cond t s′ u′)
-  pick-alike true s s′ u u′ p q = p
-  pick-alike false s s′ u u′ p q = q
-
   less-alike : (r : ℕ) (f : Float) (a a′ b : List Float) → ReadAlike n col a a′ → SysAlike n col (lessRow n col r f (sys a b)) (lessRow n col r f (sys a′ b))
   unfolding lessRow
   less-alike r f a a′ b g =
-      pick-alike (eq f zero⁺) _ _ _ _ (g, refl) (upTo-both (ReadAlike n col) (lessAt n col r f) (lessAt n col r f) col n (λ c s t h k. less-agree r c f s t h k) a a′ g, refl)
+      either-both (SysAlike n col) (eq f zero⁺) _ _ _ _ (g, refl) (upTo-both (ReadAlike n col) (lessAt n col r f) (lessAt n col r f) col n (λ c s t h k. less-agree r c f s t h k) a a′ g, refl)
 
   module _ (within : col < n) where
     in-column : (a a′ : List Float) → ReadAlike n col a a′ → (r : ℕ) → at a (r * n + col) ≡ at a′ (r * n + col)
@@ -109,7 +105,7 @@ module _ (n col : ℕ) where
 
       swapped-alike : (a a′ b : List Float) → ReadAlike n col a a′ → SysAlike n col (swapped n col piv (sys a b)) (lesserSwapped n col piv (sys a′ b))
       unfolding swapped lesserSwapped
-      swapped-alike a a′ b g = pick-alike (eqb piv col) _ _ _ _ (g, refl) (rows-agree a a′ g, refl)
+      swapped-alike a a′ b g = either-both (SysAlike n col) (eqb piv col) _ _ _ _ (g, refl) (rows-agree a a′ g, refl)
 
     -- ---- a turn
 
@@ -120,10 +116,6 @@ module _ (n col : ℕ) where
         read r c (inl h) = inl (omega arith)
         read r c (inr h) = inr h
 
-    in-step : (t : Bool) (u v : Sys) → SysAlike n (col + 1) u v → InStep (SysAlike n (col + 1)) (cond t stop (go u)) (cond t stop (go v))
-    in-step true u v h = tt
-    in-step false u v h = h
-
     column-alike : (scale : Float) (s t : Sys) → SysAlike n col s t → InStep (SysAlike n (col + 1)) (columnOf n scale col s) (lesserColumn n scale col t)
     unfolding columnOf lesserColumn singular
     column-alike scale (sys a b) (sys a′ b′) (g, e) =
@@ -131,7 +123,7 @@ module _ (n col : ℕ) where
         let s : Sys = swapped n col piv (sys a b) in
         let t : Sys = lesserSwapped n col piv (sys a′ b) in
         rw (← e, ← pivot-same a a′ g, ← in-column a a′ g piv)
-        (in-step (le (absOf (at a (piv * n + col))) (scale ⊗ 1e-15)) (belowOf n col s) (belowOf n col t)
+        (either-both (InStep (SysAlike n (col + 1))) (le (absOf (at a (piv * n + col))) (scale ⊗ 1e-15)) stop (go (belowOf n col s)) stop (go (belowOf n col t)) tt
         (weaker (belowOf n col s) (belowOf n col t) (below-alike s t (swapped-alike piv (pivot-from a) a a′ b g))))
 
 itself : (n : ℕ) (s : Sys) → SysAlike n 0 s s

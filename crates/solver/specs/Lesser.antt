@@ -27,19 +27,21 @@ lesserColumn n scale col (sys a b) = cond (singular n scale col a) stop (go (bel
 unfoldable pub lesserEliminated : ℕ → Sys → Try Sys
 lesserEliminated n (sys a b) = tryTo n 0 (lesserColumn n (scaleOf a)) (sys a b)
 
--- the places that are still read when column col is come to: from that column on, and on and above the diagonal
+-- whether row r, column c is still read when column col is come to: it lies from that column on, or on or above the diagonal
 abbrev pub StillRead : ℕ → ℕ → ℕ → Type 0
 StillRead col r c = (col ≤ c) ⊎ (r ≤ c)
 
+-- two matrices of one length that agree at every such place
 pub record ReadAlike (n col : ℕ) (a a′ : List Float) : Type 0 where
   pub long : length a ≡ length a′
   pub same : (r c : ℕ) → c < n → StillRead col r c → at a (r * n + c) ≡ at a′ (r * n + c)
 
+-- and their right sides are one
 abbrev pub SysAlike : ℕ → ℕ → Sys → Sys → Type 0
 SysAlike n col (sys a b) (sys a′ b′) = ReadAlike n col a a′ × (b ≡ b′)
 
--- When k columns are done, both were stopped before, or the two matrices agree at every place that is still read, and the right sides are
--- one.
+-- When k columns are done, both were stopped before, or the two matrices agree at every place that is still read, and the right sides
+-- are one.
 abbrev pub StepsAgree : Type 0
 StepsAgree = (n k : ℕ) (scale : Float) (s : Sys) → k ≤ n → InStep (SysAlike n k) (tryTo k 0 (columnOf n scale) s) (tryTo k 0 (lesserColumn n scale) s)
 

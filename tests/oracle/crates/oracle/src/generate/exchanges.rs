@@ -1,5 +1,4 @@
-//! Eliminations in which rows trade places, each by its name. A row that was sent down is brought back up by a later exchange, though never
-//! to its own place, which the pivot's row has taken.
+//! Eliminations in which rows trade places, each by its name.
 
 use super::calls;
 
@@ -26,6 +25,7 @@ impl Exchange {
 pub fn exchanges() -> Vec<Exchange> {
     const M: f64 = f64::MAX;
     let b = &[1.0, -2.0, 3.0, 0.5];
+    // The first exchange sends the second row down, the next one brings it back up; its own place the pivot's row has taken.
     let brought_back = &[5.1, 1.3, -0.7, 0.4, 0.7, 0.3, 2.9, -0.2, 1.9, 0.8, 0.3, 2.1, -0.9, 3.6, 1.7, 1.2];
     // Clearing leaves a little in the first column of the two last rows, and it is not the same.
     let late = &[5.1, 1.3, -0.7, 0.4, 0.3, 4.3, 1.1, -0.2, 0.7, 0.8, 0.3, 2.1, -0.35, 0.6, 3.7, 1.2];
