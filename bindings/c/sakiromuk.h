@@ -28,6 +28,16 @@ enum sakiromuk_status {
     SAKIROMUK_TOO_SHORT = 9              /* a work area has fewer than SAKIROMUK_AREA numbers */
 };
 
+/* Why a fit failed: where the number is SAKIROMUK_NOT_CONVERGED, the CODE of its reply's second line, g=LOWEST,ITERATIONS,TRIES,CODE,COLUMN.
+   COLUMN is counted from 1 with SAKIROMUK_NO_PIVOT, and 0 with any other. docs/FORMAT.md has an example of each. */
+enum sakiromuk_reason {
+    SAKIROMUK_NOTHING_FREE = 1,          /* everything is fixed, and the equations do not hold there */
+    SAKIROMUK_NO_PIVOT = 2,              /* a number was too large, as where points are drawn all but at one place */
+    SAKIROMUK_NOT_FINITE = 3,            /* a step is not finite, as where points that need a distance between them are at one place */
+    SAKIROMUK_NOT_LESS = 4,              /* no step helps: a contradiction, or the drawing is too far from what is asked */
+    SAKIROMUK_ITERATIONS_SPENT = 5       /* merely slow: the last iteration still helped; there may be a contradiction all the same */
+};
+
 /* Runs the job whose text is the text_len bytes at text (no 0 need end it), and returns the length of its reply.
 
    reply: room for reply_len bytes. Where that is at least what is returned, the reply is at its head and the rest of it is as it was. A
@@ -44,7 +54,7 @@ enum sakiromuk_status {
    Threads: there is no state, no heap and no lock, and of the C library memcpy and memset alone are called, so any number of calls may run
    at once, each on its own slices.
 
-   Stack and time: a job took at most 68,024 bytes of stack over 20,000 jobs, and the tests hold it to 131,072. Every call ends. On an AMD
+   Stack and time: a job took at most 71,288 bytes of stack over 20,000 jobs, and the tests hold it to 131,072. Every call ends. On an AMD
    EPYC a rectangle takes some 30 us; the longest processor time seen was 1.3 s, on a busy machine, among 160 jobs of 40 points and 40
    equations that cannot hold together, where the fit is tried again without each equation. Of 20,000 jobs that the tests draw none took over 0.1 s. */
 size_t sakiromuk_run(const uint8_t *text, size_t text_len, uint8_t *reply, size_t reply_len, double *p, size_t p_len, double *q,

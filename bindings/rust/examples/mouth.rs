@@ -17,7 +17,7 @@ fn main() {
             assert!((fit.measure(across) - 620.0).abs() < 1e-9);
             println!("the right lip is at {:?}", fit.point(right));
         }
-        Reply::Failed(failed) => panic!("these do not go together: {:?}", failed.suspects),
+        Reply::Failed(failed) => panic!("{}, with the suspects {:?}", failed.reason, failed.suspects),
         Reply::Refused(status) => panic!("refused: {status}"),
     }
 }

@@ -8,8 +8,8 @@
 #![doc = include_str!("../examples/mouth.rs")]
 //! ```
 //!
-//! A job is checked when it is run, not when it is built: one that is refused has a [`Status`] that says why. The same job gives the same
-//! reply, to the last bit, on every machine.
+//! A job is checked when it is run, not when it is built: one that is refused has a [`Status`] that says why, and a fit that failed a
+//! [`Reason`]. The same job gives the same reply, to the last bit, on every machine.
 
 #![deny(missing_docs)]
 
@@ -20,5 +20,5 @@ mod status;
 
 pub use call::{AREA, Fitter, REPLY, run_in};
 pub use job::{Axis, Contact, Equation, EquationId, Job, LineId, Measure, MeasureId, PointId, Radius, Side, State};
-pub use reply::{Failed, Fitted, Group, Malformed, Reply};
+pub use reply::{Failed, Fitted, Group, Malformed, Reason, Reply};
 pub use status::Status;

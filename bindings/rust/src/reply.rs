@@ -54,8 +54,66 @@ pub struct Failed {
     pub iterations: usize,
     /// How many tries these took together.
     pub tries: usize,
+    /// Why it failed.
+    pub reason: Reason,
     /// The equations each of which, left out, would let the rest of the group hold. There may be none.
     pub suspects: Vec<EquationId>,
+}
+
+/// Why a fit failed. An iteration makes up to twelve tries; where it takes none, the last of them says why.
+#[derive(Clone, Copy, Debug, PartialEq, Eq, Hash)]
+pub enum Reason {
+    /// 1: everything is fixed. All points of the group are kept or placed, and its equations do not hold there.
+    NothingFree,
+    /// 2: a number was too large for a step to be worked out, as where points are drawn all but at one place.
+    NoPivot {
+        /// The column in which elimination found no pivot, counted from 1.
+        column: usize,
+    },
+    /// 3: the step that was worked out is not finite, as where points that are to have a distance or a direction between them are at one
+    /// place, drawn so or brought there by the fit.
+    NotFinite,
+    /// 4: no try brings the equations nearer to holding. It is a contradiction, or the drawing is far from what is asked.
+    NotLess,
+    /// 5: merely slow. The iterations were spent while the last one still came nearer; there may be a contradiction all the same.
+    IterationsSpent,
+}
+
+impl Reason {
+    /// The code that stands for it in a reply, 1 to 5.
+    pub fn code(self) -> usize {
+        match self {
+            Self::NothingFree => 1,
+            Self::NoPivot { .. } => 2,
+            Self::NotFinite => 3,
+            Self::NotLess => 4,
+            Self::IterationsSpent => 5,
+        }
+    }
+
+    /// The reason that a code and a column of a reply stand for. A column is there with code 2, and 0 stands for none.
+    fn from_code(code: usize, column: usize) -> Option<Self> {
+        match (code, column) {
+            (1, 0) => Some(Self::NothingFree),
+            (2, 1..) => Some(Self::NoPivot { column }),
+            (3, 0) => Some(Self::NotFinite),
+            (4, 0) => Some(Self::NotLess),
+            (5, 0) => Some(Self::IterationsSpent),
+            _ => None,
+        }
+    }
+}
+
+impl fmt::Display for Reason {
+    fn fmt(&self, f: &mut fmt::Formatter<'_>) -> fmt::Result {
+        match self {
+            Self::NothingFree => f.write_str("everything is fixed"),
+            Self::NoPivot { column } => write!(f, "a step could not be worked out: no pivot in column {column}"),
+            Self::NotFinite => f.write_str("a step is not finite: points may be at one place"),
+            Self::NotLess => f.write_str("no step helps: the equations may contradict each other"),
+            Self::IterationsSpent => f.write_str("the iterations were spent while they still helped"),
+        }
+    }
 }
 
 impl Reply {
@@ -144,9 +202,10 @@ fn group(value: &str) -> Result<Group, Malformed> {
 }
 
 fn failed(lines: &mut Lines<'_>) -> Result<Failed, Malformed> {
-    let [lowest, iterations, tries] = fields(field(lines, "g")?, whole)?;
+    let [lowest, iterations, tries, code, column] = fields(field(lines, "g")?, whole)?;
+    let reason = Reason::from_code(code, column).ok_or(Malformed)?;
     let suspects = lines.map(|line| whole(line.strip_prefix("c=").ok_or(Malformed)?).map(EquationId)).collect::<Result<_, _>>()?;
-    Ok(Failed { lowest: PointId(lowest), iterations, tries, suspects })
+    Ok(Failed { lowest: PointId(lowest), iterations, tries, reason, suspects })
 }
 
 /// The value of the next line, which has this key.

@@ -4,7 +4,7 @@ use std::fs;
 use std::path::{Path, PathBuf};
 use std::thread;
 
-use sakiromuk::{AREA, Axis, Contact, Equation, Fitter, Job, Measure, PointId, REPLY, Radius, Reply, Side, State, Status, run_in};
+use sakiromuk::{AREA, Axis, Contact, Equation, Fitter, Job, Measure, PointId, REPLY, Radius, Reason, Reply, Side, State, Status, run_in};
 
 fn samples() -> PathBuf {
     Path::new(env!("CARGO_MANIFEST_DIR")).join("../../samples")
@@ -133,7 +133,7 @@ fn a_reply_is_read_whole() {
     assert_eq!(rails.groups[1].lowest.number(), 4);
     assert_eq!(rails.points[3][1], 102.5);
     let Reply::Failed(quarrel) = sample("quarrel.reply").parse().expect("a reply") else { panic!("quarrel.job is not fitted") };
-    assert_eq!((quarrel.lowest.number(), quarrel.iterations, quarrel.tries), (0, 14, 39));
+    assert_eq!((quarrel.lowest.number(), quarrel.iterations, quarrel.tries, quarrel.reason), (0, 14, 39, Reason::NotLess));
     assert_eq!(quarrel.suspects.iter().map(|e| e.number()).collect::<Vec<_>>(), [0, 1, 6]);
     for status in Status::ALL {
         let read = format!("status={}\n", status.number()).parse::<Reply>().ok();
@@ -151,7 +151,7 @@ fn a_reply_is_read_whole() {
         "status=258\n",
         "status=2\nx=1\n",
         "status=7\ng=0,1\n",
-        "status=7\ng=0,1,2\nc=-1\n",
+        "status=7\ng=0,1,2,4,0\nc=-1\n",
     ] {
         assert!(text.parse::<Reply>().is_err(), "{text:?}");
     }
@@ -159,6 +159,69 @@ fn a_reply_is_read_whole() {
     for line in fitted.lines() {
         assert!(fitted.replacen(line, "", 1).parse::<Reply>().is_err(), "without what {line} says");
     }
+}
+
+/// The reason in a reply whose failing line ends so.
+fn reason(end: &str) -> Option<Reason> {
+    match format!("status=7\ng=0,1,12{end}\nc=0\n").parse() {
+        Ok(Reply::Failed(failed)) => Some(failed.reason),
+        Ok(other) => panic!("{other:?}"),
+        Err(_) => None,
+    }
+}
+
+#[test]
+fn a_reason_has_its_code_and_column() {
+    for (code, read) in [(1, Reason::NothingFree), (3, Reason::NotFinite), (4, Reason::NotLess), (5, Reason::IterationsSpent)] {
+        assert_eq!(reason(&format!(",{code},0")), Some(read));
+        assert_eq!(reason(&format!(",{code},1")), None, "a column with {read}");
+        assert_eq!(read.code(), code);
+    }
+    for column in [1, 2, 64] {
+        assert_eq!(reason(&format!(",2,{column}")), Some(Reason::NoPivot { column }));
+        assert_eq!(Reason::NoPivot { column }.code(), 2);
+    }
+    for end in ["", ",4", ",4,", ",2,0", ",0,0", ",6,0", ",04,0", ",4,00", ",2,01", ",+4,0", ",4,-0", ",2,1,0", ",4,0,", ", 4,0", ",x,0", ",4,0 "] {
+        assert_eq!(reason(end), None, "{end:?}");
+    }
+}
+
+/// Two points, the second drawn at x and free, that are to be so far apart.
+fn pair(x: f64, distance: f64) -> (Job, PointId, PointId) {
+    let mut job = Job::new([0.0, 0.0], 10.0);
+    let (a, b) = (job.point([0.0, 0.0], State::Kept), job.point([x, 0.0], State::Free));
+    job.equation(Equation::Distance(a, b, distance));
+    (job, a, b)
+}
+
+/// Three points that are to be on one line; the first is at the origin, the others are drawn at these places and free.
+fn in_line(middle: [f64; 2], last: [f64; 2]) -> (Job, [PointId; 3]) {
+    let mut job = Job::new([0.0, 0.0], 1.0);
+    let p = [job.point([0.0, 0.0], State::Kept), job.point(middle, State::Free), job.point(last, State::Free)];
+    let (first, second) = (job.line(p[0], p[1]), job.line(p[1], p[2]));
+    job.equation(Equation::Parallel(first, second));
+    (job, p)
+}
+
+#[test]
+fn a_failed_fit_says_why() {
+    let why = |job: &Job| match Fitter::new().fit(job) {
+        Reply::Failed(failed) => failed.reason,
+        other => panic!("{other:?}"),
+    };
+    let mut fixed = Job::new([0.0, 0.0], 1.0);
+    let (a, b) = (fixed.point([0.0, 0.0], State::Kept), fixed.point([0.0, 0.0], State::Placed([1.0, 0.0])));
+    fixed.equation(Equation::Distance(a, b, 2.0));
+    assert_eq!(why(&fixed), Reason::NothingFree);
+    assert_eq!(why(&in_line([1e-160, 0.0], [1.0, 2.0]).0), Reason::NoPivot { column: 1 });
+    assert_eq!(why(&pair(0.0, 0.5).0), Reason::NotFinite);
+    let (mut quarrel, a, b) = pair(4.0, 0.5);
+    quarrel.equation(Equation::AxisDistance(a, b, Axis::X, 0.6, Side::Plus));
+    quarrel.equation(Equation::Level(a, b, Axis::Y));
+    assert_eq!(why(&quarrel), Reason::NotLess);
+    let (mut slow, p) = in_line([2.0, 0.0], [0.0, 1.0]);
+    slow.equation(Equation::Distance(p[0], p[2], 1e6));
+    assert_eq!(why(&slow), Reason::IterationsSpent);
 }
 
 #[test]

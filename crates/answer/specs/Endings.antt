@@ -1,5 +1,5 @@
--- What a job answers after each ending (document 01, "The numbers a job ends in" and "The text"): numbers 1 to 6 and 9 only
--- themselves, 7 the lowest failing group and its suspects, 0 the groups, the total freedom and worst.
+-- What a job answers after each ending (document 01, "The numbers a job ends in" and "The text"; document 02, K6): numbers 1 to 6
+-- and 9 only themselves, 7 the lowest failing group with its reason, and its suspects, 0 the groups, the total freedom and worst.
 use mathlib.Core.Bool.{Bool, false}
 use mathlib.Core.List.{List, _∷_}
 use Prim.Native.Nat.{ℕ}
@@ -10,8 +10,9 @@ use Rattle.sketch.specs.declared.Ending.{Ending}
 use Rattle.answer.specs.declared.Answer.{Answer}
 use Rattle.answer.specs.declared.GroupFit.{GroupFit}
 
+-- what stands past the groups that count
 abbrev pub blankGroup : GroupFit
-blankGroup = record { lowest = 0; freedom = 0; iterations = 0; tries = 0 }
+blankGroup = record { lowest = 0; freedom = 0; iterations = 0; tries = 0; code = 0; column = 0 }
 
 abbrev pub refusedOf : Ending → Answer
 refusedOf e = record {

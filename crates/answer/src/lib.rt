@@ -1,16 +1,20 @@
-// What a job answers beside its lent output: how it ended, and what document 01 hands out after that ending. Everything else is
-// blank: zeros, and no suspects.
+// What a job answers beside its lent output: how it ended, and what document 01 hands out after that ending, on 7 with document
+// 02's reason. Everything else is blank: zeros, and no suspects.
 ghost use mathlib.Core.Path.{_≡_};
 ghost use Rattle.answer.specs.Endings.{blankGroup, refusedOf, failedOf, fittedOf};
 ghost use Rattle.sketch.specs.Check.{numberOf};
 use sketch::Ending;
 
-// A group that was fitted: its lowest point, its freedom, its iterations and tries.
+// A group that was fitted, or the one that failed: its lowest point, its freedom, its iterations and tries.
 pub struct GroupFit {
     pub lowest: usize,
     pub freedom: usize,
     pub iterations: usize,
     pub tries: usize,
+    // Why it failed: document 02's code from 1 to 5, and with code 2 the column that had no pivot, counted from 1 (0 with any other
+    // code). Zeros in a group that was fitted.
+    pub code: usize,
+    pub column: usize,
 }
 
 pub struct Answer {
@@ -25,7 +29,8 @@ pub struct Answer {
     pub suspects: [bool; 40],
 }
 
-fn blank_group() -> GroupFit
+// What stands past the groups that count.
+pub fn blank_group() -> GroupFit
     ensures { λ r. ⌜ r ≡ blankGroup ⌝ }
 {
     GroupFit {
@@ -33,6 +38,8 @@ fn blank_group() -> GroupFit
         freedom: 0,
         iterations: 0,
         tries: 0,
+        code: 0,
+        column: 0,
     }
 }
 
@@ -51,7 +58,7 @@ pub fn refused(e: Ending) -> Answer
     }
 }
 
-// A group that does not converge, and its suspects.
+// A group that does not converge, with its reason, and its suspects.
 pub fn failed(g: GroupFit, suspects: [bool; 40]) -> Answer
     ensures { λ r. ⌜ r ≡ failedOf g suspects ⌝ }
 {

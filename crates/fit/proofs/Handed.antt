@@ -31,12 +31,12 @@ module _ (b : Build) (f : Frame) (chosen : Equations) where
       → cond s refusal (fittedBy n o) .x ≡ replicate 80 zero⁺
   bare true n o h = refl
   bare false n (converged x i t) h = cc
-  bare false n (failed i t) h = refl
+  bare false n (failed w i t) h = refl
 
   held : (s : Bool) (o : Outcome) → outcomeIn b f (numbersOf (chosen .0)) ≡ o
       → convergedBy (cond s refusal (fittedBy (length (startIn b f)) o) .solved .ending) ≡ true → ShowsFit (cond s refusal (fittedBy (length (startIn b f)) o))
   held true o e h = absurd (true≢false (sym h))
-  held false (failed i t) e h = absurd (true≢false (sym h))
+  held false (failed w i t) e h = absurd (true≢false (sym h))
   held false (converged x i t) e h = record { x = x; shown = refl; holds = fit-holds _ _ (startIn b f) x i t e }
 
   module _ {p q r p′ q′ r′ : List Float} {t : Fitted} (made : FitsChosen b f chosen p q r p′ q′ r′ t) where

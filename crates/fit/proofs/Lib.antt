@@ -8,3 +8,4 @@ pub mod Handed
 pub mod SuspectsTheorem
 pub mod MeansFitted
 pub mod Lowest
+pub mod Reasons

@@ -27,7 +27,7 @@ use Rattle.fit.specs.declared.Frame.{Frame}
 
 ended-so : (n : ℕ) (o : Outcome) → convergedBy (fittedBy n o .solved .ending) ≡ converges o
 ended-so n (converged x i t) = refl
-ended-so n (failed i t) = refl
+ended-so n (failed w i t) = refl
 
 module _ (b : Build) (f : Frame) (k : ℕ) (p q r p′ q′ r′ : List Float) (chosen : Equations) (t : Fitted) (s : Bool) (room : short p q r ≡ false)
     (l : Lists (chosen .0) (withouts b f k)) (h : FitsChosen b f chosen p q r p′ q′ r′ t) (e : s ≡ convergedBy (t .solved .ending)) where

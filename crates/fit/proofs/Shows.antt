@@ -36,13 +36,13 @@ use Rattle.fit.specs.declared.Frame.{Frame}
 shown-by : (n : ℕ) (o : Outcome) (s : Solved) (x x′ rest : List Float) (t : Fitted) → s ≡ answeredBy o → x′ ≡ coordinatesOf x o → rest ≡ replicate (80 - n) zero⁺
     → t ≡ shownOf s (x′ ++ rest) → t ≡ fittedBy n o
 shown-by n (converged y i k) s x x′ rest t es ex er et = et ∙ rw (es, ex, er)
-shown-by n (failed i k) s x x′ rest t es ex er et = et ∙ rw es
+shown-by n (failed w i k) s x x′ rest t es ex er et = et ∙ rw es
 
 -- and what it means
 meaning-is : (v : Bool) (n : ℕ) (o : Outcome) → fitMeaning (cond v refusal (fittedBy n o)) ≡ cond v (refused tooShort) (fitMeant n o)
 meaning-is true n o = refl
 meaning-is false n (converged x i t) = refl
-meaning-is false n (failed i t) = refl
+meaning-is false n (failed w i t) = refl
 
 -- elimination of the bounds that a frame keeps
 module _ (es : List Active) (ls : List Line) (places columns chosen free : List ℕ) (x p q r x′ p′ q′ r′ : List Float) (s : Solved)

@@ -37,7 +37,7 @@ freedomOf b f x =
 -- `conflicts`: without equation k the rest converges
 abbrev pub converges : Outcome → Bool
 converges (converged x i t) = true
-converges (failed i t) = false
+converges (failed w i t) = false
 
 unfoldable pub suspect : Build → Frame → ℕ → Bool
 suspect b f k = converges (outcomeIn b f (withoutOf k (numbersOf (f .equations .0))))

@@ -7,19 +7,23 @@ use mathlib.Core.List.{List, map, List·Memᴰ}
 use mathlib.Core.Logic.{_↔_}
 use mathlib.Core.Path.{_≡_}
 use lib.Ieee.{Float}
-use lib.ListN.{getD}
+use lib.ListN.{length, getD}
 use Rattle.floats.specs.Ops.{1e-12}
 use Rattle.groups.specs.Chains.{equationsIn, Lowest}
 use Rattle.groups.specs.declared.Grouping.{Grouping}
 use Rattle.members.specs.Lists.{numbersOf, withoutOf}
-use Rattle.rounds.specs.Solve.{Outcome, converged}
+use Rattle.members.specs.Movable.{indicesOf}
+use Rattle.rounds.specs.Problem.{rowCount, jacobianAt, problemOf}
+use Rattle.rounds.specs.Reasons.{Because, Tells}
+use Rattle.rounds.specs.Solve.{Problem, Outcome, converged, failed}
+use Rattle.rounds.specs.declared.Reason.{Reason}
 use Rattle.rows.specs.Column.{rowsAt}
 use Rattle.rows.specs.Entries.{Row}
 use Rattle.sketch.specs.declared.Build.{Build}
 use Rattle.solver.specs.Sums.{AllWithin}
 use Rattle.fit.specs.Fits.{outcomeIn, worstOf, freedomOf, converges, suspectsOf}
 use Rattle.fit.specs.Promise.{frameOverRows}
-use Rattle.fit.specs.Frames.{frameOf}
+use Rattle.fit.specs.Frames.{frameOf, startIn}
 use Rattle.fit.specs.declared.Frame.{Frame}
 
 -- the lowest point of a group: its first
@@ -36,9 +40,32 @@ module _ (b : Build) (gr : Grouping) (g : ℕ) where
   abbrev pub frameIn : Frame
   frameIn = frameOf (b .points) gr g
 
-  -- `eq.fit(g, &g.constraints)`: converged or failed, the coordinates, the iterations and the tries
+  -- `eq.fit(g, &g.constraints)`: converged at its coordinates or failed for a reason, the iterations and the tries
   abbrev pub outcomeAt : Outcome
   outcomeAt = outcomeIn b frameIn (numbersOf (frameIn .equations .0))
+
+  -- the problem that it solves, and its Jacobian
+  abbrev pub problemAt : Problem
+  problemAt =
+      let own = numbersOf (frameIn .equations .0) in
+      problemOf (b .equations) (b .lines) (frameIn .places) own (indicesOf (frameIn .free)) (rowCount (b .equations) own)
+
+  abbrev pub slopesAt : List Float → List Float
+  slopesAt x = jacobianAt (b .equations) (b .lines) (frameIn .places) (numbersOf (frameIn .equations .0)) (frameIn .columns) (length (indicesOf (frameIn .free))) x
+
+  -- it fails for a reason exactly when what the reason says holds, and what it then names (crates/rounds/specs/Reasons.antt):
+  -- `reason-exactly` and `reason-tells` (proofs/Reasons.antt)
+  abbrev pub ReasonAt : Reason → ℕ → ℕ → Type 0
+  ReasonAt w i t = Because problemAt slopesAt (startIn b frameIn) i t w
+
+  abbrev pub TellsAt : Reason → ℕ → Type 0
+  TellsAt w i = Tells problemAt slopesAt w i
+
+  abbrev pub ReasonExactly : Type 0
+  ReasonExactly = (w : Reason) (i t : ℕ) → outcomeAt ≡ failed w i t ↔ ReasonAt w i t
+
+  abbrev pub ReasonTells : Type 0
+  ReasonTells = (w : Reason) (i t : ℕ) → outcomeAt ≡ failed w i t → TellsAt w i
 
   -- at given coordinates
   abbrev pub freedomAt : List Float → ℕ

@@ -29,7 +29,7 @@ shownOf s x = record { solved = s; x = shownBy (s .ending) }
   where
     shownBy : FitEnding → List Float
     shownBy Converged = x
-    shownBy Failed = replicate 80 zero⁺
+    shownBy (Failed w) = replicate 80 zero⁺
     shownBy TooMany = replicate 80 zero⁺
     shownBy TooShort = replicate 80 zero⁺
 

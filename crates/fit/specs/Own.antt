@@ -41,7 +41,7 @@ pub record SharesGroup (b b′ : Build) (g g′ : ℕ) : Type 0 where
 -- ---- and what they then agree on
 
 pub record FitsAlike (b b′ : Build) (g g′ : ℕ) : Type 0 where
-  -- outcome, coordinates, iterations and tries
+  -- outcome: coordinates or reason, iterations and tries
   pub fit : outcomeAt b (groupingOf b) g ≡ outcomeAt b′ (groupingOf b′) g′
   -- at whatever coordinates, so at those of the fit
   pub freedom : (x : List Float) → freedomAt b (groupingOf b) g x ≡ freedomAt b′ (groupingOf b′) g′ x

@@ -46,7 +46,7 @@ padded n x = x ++ replicate (80 - n) zero⁺
 -- only a fit that converged shows coordinates
 abbrev pub fittedBy : ℕ → Outcome → Fitted
 fittedBy n (converged x i t) = record { solved = saying Converged i t; x = padded n x }
-fittedBy n (failed i t) = record { solved = saying Failed i t; x = replicate 80 zero⁺ }
+fittedBy n (failed w i t) = record { solved = saying (Failed w) i t; x = replicate 80 zero⁺ }
 
 abbrev pub refusal : Fitted
 refusal = record { solved = saying TooShort 0 0; x = replicate 80 zero⁺ }
@@ -57,7 +57,7 @@ fitMeaning t = rounds.meaningOf (t .x) (t .solved)
 
 abbrev pub fitMeant : ℕ → Outcome → Meaning (List Float × ℕ × ℕ)
 fitMeant n (converged x i t) = values (padded n x, i, t)
-fitMeant n (failed i t) = refused notConverged
+fitMeant n (failed w i t) = refused notConverged
 
 pub record FitsChosen (b : Build) (f : Frame) (chosen : Equations) (p q r p′ q′ r′ : List Float) (t : Fitted) : Type 0 where
   pub answer : t ≡ cond (short p q r) refusal (fittedBy (length (startIn b f)) (outcomeIn b f (numbersOf (chosen .0))))

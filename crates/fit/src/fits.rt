@@ -19,7 +19,7 @@ fn shown(s: Solved, x: [f64; 80]) -> Fitted
     let ending = s.ending;
     match ending {
         FitEnding::Converged => Fitted { solved: s, x },
-        FitEnding::Failed => Fitted {
+        FitEnding::Failed(_) => Fitted {
             solved: s,
             x: [0.0; 80],
         },

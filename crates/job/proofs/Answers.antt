@@ -9,11 +9,11 @@ use lib.ListN.{length, take}
 use lib.Seq.{length-take-le}
 use Rattle.answer.specs.Endings.{refusedOf, failedOf}
 use Rattle.answer.specs.declared.Answer.{Answer}
+use Rattle.answer.specs.declared.GroupFit.{GroupFit}
 use Rattle.fit.specs.Promise.{Marks, short}
 use Rattle.fit.specs.Frames.{frameOf}
 use Rattle.fit.specs.declared.Frame.{Frame}
 use Rattle.fit.specs.declared.Marked.{Marked}
-use Rattle.fit.specs.Groups.{lowestOf}
 use Rattle.groups.specs.Listed.{groupingOf}
 use Rattle.groups.specs.declared.Grouping.{Grouping}
 use Rattle.rounds.specs.Promise.{zeroed}
@@ -26,10 +26,9 @@ use Rattle.job.specs.Promise.{verdict, answerAfter, numberIn, Does}
 use Rattle.job.specs.declared.Went.{Went}
 use Rattle.job.proofs.Numbered.{number-is}
 
-pub failing-is : (b : Build) (gr : Grouping) (g i t : ℕ) (f : Frame) (low : ℕ) (m : Marked) (p q r p′ q′ r′ : List Float) (a : Answer) → f ≡ frameOf (b .points) gr g
-    → short p q r ≡ false → Marks b f p q r p′ q′ r′ m → low ≡ lowestOf f → a ≡ failedOf (record { lowest = low; freedom = 0; iterations = i; tries = t }) (m .marks)
-    → a ≡ answerBy b gr (fails g i t)
-failing-is b gr g i t f low m p q r p′ q′ r′ a ef room em el ea = ea ∙ rw (el, em .answer, room, ← ef)
+pub failed-is : (b : Build) (gr : Grouping) (g : ℕ) (u : GroupFit) (f : Frame) (m : Marked) (p q r p′ q′ r′ : List Float) (a : Answer) → f ≡ frameOf (b .points) gr g
+    → short p q r ≡ false → Marks b f p q r p′ q′ r′ m → a ≡ failedOf u (m .marks) → a ≡ answerBy b gr (fails g u)
+failed-is b gr g u f m p q r p′ q′ r′ a ef room em ea = ea ∙ rw (em .answer, room, ← ef)
 
 -- how the groups went
 module _ (b : Build) (gr : Grouping) (n : ℕ) (w : Went) (e : gr ≡ groupingOf b) (m : n ≡ min (gr .count) 40) (h : resultOf w ≡ groupsFrom b gr n 0 (begin b)) where
@@ -37,10 +36,10 @@ module _ (b : Build) (gr : Grouping) (n : ℕ) (w : Went) (e : gr ≡ groupingOf
   unfolding fitOf
   came = h ∙ rw (m, e)
 
-  pub ended-failing : (a : Answer) (out : List Float) → w .failed ≡ true → a ≡ answerBy b gr (fails (w .group) (w .iterations) (w .tries))
+  pub ended-failing : (a : Answer) (out : List Float) → w .failed ≡ true → a ≡ answerBy b gr (fails (w .group) (w .failure))
       → (a ≡ answerBy b (groupingOf b) (fitOf b)) × (out ≡ outputBy b (groupingOf b) (fitOf b) out)
   ended-failing a out f q =
-      let g : fails (w .group) (w .iterations) (w .tries) ≡ fitOf b = rw f at came in
+      let g : fails (w .group) (w .failure) ≡ fitOf b = rw f at came in
       (rw (← g, ← e) q, rw (← g))
 
   pub ended-fitted : (a : Answer) (out out′ : List Float) → w .failed ≡ false → a ≡ answerBy b gr (fits (w .doing)) → out′ ≡ outputBy b gr (fits (w .doing)) out

@@ -98,7 +98,7 @@ level-sized b points =
 
 abbrev pointCount : Result → ℕ
 pointCount (fits d) = length (d .points)
-pointCount (fails g i t) = 0
+pointCount (fails g u) = 0
 
 module _ (b : Build) (gr : Grouping) where
   taken-sized : (f : Frame) (g : ℕ) (x : List Float) (i t : ℕ) (d : Doing) → length (takenOf b f g x i t d .points) ≡ length (d .points)
@@ -112,11 +112,11 @@ module _ (b : Build) (gr : Grouping) where
       go : (o : Outcome) → outcomeAt b gr g ≡ o → ((d′ : Doing) → groupsFrom b gr k (g + 1) d′ ≡ fits e → length (e .points) ≡ length (d′ .points))
           → length (e .points) ≡ length (d .points)
       go (converged x i t) q later = later _ (sym (goes-on b gr k g d x i t q) ∙ h) ∙ taken-sized (frameIn b gr g) g _ i t d
-      go (failed i t) q later = absurd (true≢false (ap unfit (sym (stops b gr k g d i t q) ∙ h)))
+      go (failed w i t) q later = absurd (true≢false (ap unfit (sym (stops b gr k g d w i t q) ∙ h)))
 
 fit-of : (R : Result) → unfit R ≡ false → (d : Doing) × (R ≡ fits d)
 fit-of (fits d) h = (d, refl)
-fit-of (fails g i t) h = absurd (true≢false h)
+fit-of (fails g u) h = absurd (true≢false h)
 
 begin-sized : (b : Build) → length (begin b .points) ≡ 80
 unfolding begin

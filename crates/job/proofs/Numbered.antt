@@ -11,7 +11,7 @@ use Rattle.job.specs.Promise.{noRoom, inOrder, verdictOf, answerAfter, u
 module _ (b : Build) where
   fitted : (R : Result) → numberOf (answerBy b (groupingOf b) R .ending) ≡ firstRow false false false false false (unfit R)
   fitted (fits d) = refl
-  fitted (fails g i t) = refl
+  fitted (fails g u) = refl
 
   judged : (o n u m r : Bool) → numberOf (answerAfter b (inOrder o n (ordered o u m r)) .ending) ≡ firstRow o n u m r (unfit (fitOf b))
   judged true n u m r = refl

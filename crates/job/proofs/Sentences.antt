@@ -3,13 +3,15 @@ use Prim.Native.Nat.{ℕ}
 use mathlib.Core.Bool.{Bool, true, false}
 use mathlib.Core.List.{List}
 use mathlib.Core.Logic.{_⊎_, inl, inr, _≢_}
-use mathlib.Core.Path.{_≡_, refl}
+use mathlib.Core.Path.{_≡_, refl, ap, _∙_}
 use native.Mathlib.Omega.{arith}
 use lib.Ieee.{Float}
 use lib.ListN.{length}
 use Rattle.answer.specs.Endings.{failedOf}
+use Rattle.answer.specs.declared.GroupFit.{GroupFit}
 use Rattle.fit.proofs.MeansFitted.{fitted-holds}
 use Rattle.fit.proofs.Lowest.{lowest-is}
+use Rattle.fit.proofs.Reasons.{reason-exactly, reason-tells}
 use Rattle.fit.proofs.SuspectsTheorem.{suspects-sized, suspects-exactly}
 use Rattle.fit.specs.Fits.{converges}
 use Rattle.fit.specs.Groups.{frameIn, outcomeAt, suspectsAt, lowestAt}
@@ -22,7 +24,7 @@ use Rattle.sketch.specs.Check.{checkOf, ordered, overBound, outOfBounds, refers
 use Rattle.sketch.specs.declared.Build.{Build}
 use Rattle.sketch.specs.declared.Checked.{Checked}
 use Rattle.sketch.specs.declared.Checked.the-variants.{Passes}
-use Rattle.job.specs.Given.{Sound}
+use Rattle.job.specs.Given.{Sound, LowestFailing}
 use Rattle.job.specs.Groups.{Result, fits, fails, fitOf}
 use Rattle.job.specs.Promise.{noRoom, inOrder, verdictOf, answerAfter, areaAfter, unfit, firstRow}
 use Rattle.job.specs.Sentences.{Failing, FittedMeansFitted, FailureNamed, AreasAfter}
@@ -30,21 +32,18 @@ use Rattle.job.proofs.Theorem.{given-exactly, lowest-fails, fails-some}
 
 outcome-of : (o : Outcome) → converges o ≡ true → (x : List Float) × (i : ℕ) × (t : ℕ) × (o ≡ converged x i t)
 outcome-of (converged x i t) h = (x, i, t, refl)
-outcome-of (failed i t) h = let z : _≡_ {A = ℕ} 0 1 = cc in absurd (omega arith)
+outcome-of (failed w i t) h = let z : _≡_ {A = ℕ} 0 1 = cc in absurd (omega arith)
 
-failure-of : (R : Result) → unfit R ≡ true → (j : ℕ) × (i : ℕ) × (t : ℕ) × (R ≡ fails j i t)
+failure-of : (R : Result) → unfit R ≡ true → (j : ℕ) × (u : GroupFit) × (R ≡ fails j u)
 failure-of (fits d) h = let z : _≡_ {A = ℕ} 0 1 = cc in absurd (omega arith)
-failure-of (fails j i t) h = (j, i, t, refl)
+failure-of (fails j u) h = (j, u, refl)
 
 module _ (b : Build) where
-  failing : (j i t : ℕ) → fitOf b ≡ fails j i t → Failing b j
-  failing j i t e =
-      let l = lowest-fails b j i t e in
-      record { group = l .0; unfitted = rw (l .1); earlier = l .2 }
+  failing : (j : ℕ) (u : GroupFit) → LowestFailing b j u → Failing b j
+  failing j u l = record { group = l .group; unfitted = rw (l .outcome); earlier = l .earlier }
 
-  answer-is : (v : Checked) (j i t : ℕ) → v ≡ Passes → fitOf b ≡ fails j i t
-      → answerAfter b v ≡ failedOf (record { lowest = lowestAt b (groupingOf b) j; freedom = 0; iterations = i; tries = t }) (suspectsAt b (groupingOf b) j)
-  answer-is v j i t e f = rw (e, f)
+  answer-is : (v : Checked) (j : ℕ) (u : GroupFit) → v ≡ Passes → fitOf b ≡ fails j u → answerAfter b v ≡ failedOf u (suspectsAt b (groupingOf b) j)
+  answer-is v j u e f = rw (e, f)
 
   -- by the rows in 01's order
   left : (a : List Float) (o n u m r f : Bool) → (firstRow o n u m r f ≡ 0) ⊎ (firstRow o n u m r f ≡ 7)
@@ -107,17 +106,21 @@ module _ (b : Build) where
     failure-named h =
         let s = given-exactly b out p q r .seven .0 h in
         let f = failure-of (fitOf b) (fails-some b (s .1)) in
-        let g = failing (f .0) (f .1) (f .2) (f .3) in
+        let l = lowest-fails b (f .0) (f .1) (f .2) in
+        let g = failing (f .0) (f .1) l in
         record {
           group = f .0;
           failing = g;
           lowest = lowestAt b (groupingOf b) (f .0);
           is-lowest = lowest-is b (f .0) (passes (s .0)) (g .group);
-          iterations = f .1;
-          tries = f .2;
-          counts = lowest-fails b (f .0) (f .1) (f .2) (f .3) .1;
+          iterations = l .iterations;
+          tries = l .tries;
+          why = l .why;
+          outcome = l .outcome;
+          reason = reason-exactly b (groupingOf b) (f .0) (l .why) (l .iterations) (l .tries) .0 (l .outcome);
+          tells = reason-tells b (groupingOf b) (f .0) (l .why) (l .iterations) (l .tries) (l .outcome);
           marks = suspectsAt b (groupingOf b) (f .0);
-          answer = answer-is (verdictOf b out p q r) (f .0) (f .1) (f .2) (verdict-passes (s .0)) (f .3);
+          answer = answer-is (verdictOf b out p q r) (f .0) (f .1) (verdict-passes (s .0)) (f .2) ∙ ap (λ u. failedOf u (suspectsAt b (groupingOf b) (f .0))) (l .answered);
           sized = suspects-sized b (frameIn b (groupingOf b) (f .0));
           exactly = suspects-exactly b (groupingOf b) (f .0);
         }

@@ -6,6 +6,7 @@ use mathlib.Core.Path.{_≡_, sym, ap, _∙_}
 use native.Mathlib.Omega.{arith}
 use lib.Ieee.{Float}
 use lib.ListN.{length, set}
+use Rattle.answer.specs.declared.GroupFit.{GroupFit}
 use Rattle.fit.specs.Fits.{outcomeIn, worstOf}
 use Rattle.fit.specs.Promise.{FitsChosen, short, fittedBy}
 use Rattle.fit.specs.Frames.{frameOf, startIn}
@@ -19,7 +20,7 @@ use Rattle.members.specs.Scale.{unscaleOf}
 use Rattle.rounds.specs.Promise.{convergedBy}
 use Rattle.rounds.specs.Solve.{Outcome, converged, failed}
 use Rattle.sketch.specs.declared.Build.{Build}
-use Rattle.job.specs.Groups.{Result, fits, fails, resultOf, takenOf, stepBy, stepOf, groupsFrom, begin}
+use Rattle.job.specs.Groups.{Result, fits, fails, resultOf, takenOf, failingBy, stepBy, stepOf, groupsFrom, begin}
 use Rattle.job.specs.declared.Doing.{Doing}
 use Rattle.job.specs.declared.Went.{Went}
 
@@ -27,7 +28,7 @@ use Rattle.job.specs.declared.Went.{Went}
 
 pub taken-is : (b : Build) (f : Frame) (g : ℕ) (x : List Float) (i t : ℕ) (d : Doing) (points : List Float) (n low : ℕ) (w m : Float) → n ≡ freedomIn b f x
     → w ≡ worstOf b f x → points ≡ unscaleOf (b .points) (b .centre) (b .size) (numbersOf (f .points .0)) x (d .points) → low ≡ lowestOf f → m ≡ maxOf (d .worst) w
-    → record { points = points; freedom = d .freedom + n; worst = m; groups = set (d .groups) g (record { lowest = low; freedom = n; iterations = i; tries = t }) }
+    → record { points = points; freedom = d .freedom + n; worst = m; groups = set (d .groups) g (record { lowest = low; freedom = n; iterations = i; tries = t; code = 0; column = 0 }) }
     ≡ takenOf b f g x i t d
 unfolding takenOf
 taken-is b f g x i t d points n low w m en ew ep el em = rw (ep, em, ew, el, en)
@@ -35,20 +36,20 @@ taken-is b f g x i t d points n low w m en ew ep el em = rw (ep, em, ew, el, en)
 -- ---- one group
 
 failed-by : (b : Build) (f : Frame) (g : ℕ) (d : Doing) (n : ℕ) (o : Outcome) (t : Fitted) → t ≡ fittedBy n o → convergedBy (t .solved .ending) ≡ false
-    → fails g (t .solved .iterations) (t .solved .tries) ≡ stepBy b f g d o
+    → fails g (failingBy f (t .solved)) ≡ stepBy b f g d o
 failed-by b f g d n (converged x i k) t e h = let z : _≡_ {A = Bool} true false = rw e at h in cc
-failed-by b f g d n (failed i k) t e h = rw e
+failed-by b f g d n (failed w i k) t e h = rw e
 
 converged-by : (b : Build) (f : Frame) (g : ℕ) (d d′ : Doing) (o : Outcome) (t : Fitted) → t ≡ fittedBy (length (startIn b f)) o → convergedBy (t .solved .ending) ≡ true
     → d′ ≡ takenOf b f g (t .x) (t .solved .iterations) (t .solved .tries) d → fits d′ ≡ stepBy b f g d o
 converged-by b f g d d′ (converged x i k) t e h q = ap fits (rw e at q)
-converged-by b f g d d′ (failed i k) t e h q = let z : _≡_ {A = Bool} false true = rw e at h in cc
+converged-by b f g d d′ (failed w i k) t e h q = let z : _≡_ {A = Bool} false true = rw e at h in cc
 
 module _ (b : Build) (gr : Grouping) (g : ℕ) (d : Doing) (f : Frame) (t : Fitted) (p q r p′ q′ r′ : List Float) (c : Bool) (set-out : f ≡ frameOf (b .points) gr g)
     (room : short p q r ≡ false) (e : FitsChosen b f (f .equations) p q r p′ q′ r′ t) (k : c ≡ convergedBy (t .solved .ending)) where
-  pub one-failed : c ≡ false → fails g (t .solved .iterations) (t .solved .tries) ≡ stepOf b gr g d
+  pub one-failed : (u : GroupFit) → c ≡ false → u ≡ failingBy f (t .solved) → fails g u ≡ stepOf b gr g d
   unfolding stepOf
-  one-failed h = rw (← set-out) (failed-by b f g d (length (startIn b f)) (outcomeIn b f (numbersOf (f .equations .0))) t (e .answer ∙ rw room) (sym k ∙ h))
+  one-failed u h v = rw (v, ← set-out) (failed-by b f g d (length (startIn b f)) (outcomeIn b f (numbersOf (f .equations .0))) t (e .answer ∙ rw room) (sym k ∙ h))
 
   pub one-converged : (d′ : Doing) → c ≡ true → d′ ≡ takenOf b f g (t .x) (t .solved .iterations) (t .solved .tries) d → fits d′ ≡ stepOf b gr g d
   unfolding stepOf
@@ -61,9 +62,9 @@ module _ (b : Build) (gr : Grouping) where
   unfolding groupsFrom
   from-next m k g d d′ e s = rw (e, s)
 
-  from-stop : (m k g i j l : ℕ) (d : Doing) → m ≡ suc k → stepOf b gr g d ≡ fails i j l → groupsFrom b gr m g d ≡ fails i j l
+  from-stop : (m k g j : ℕ) (u : GroupFit) (d : Doing) → m ≡ suc k → stepOf b gr g d ≡ fails j u → groupsFrom b gr m g d ≡ fails j u
   unfolding groupsFrom
-  from-stop m k g i j l d e s = rw (e, s)
+  from-stop m k g j u d e s = rw (e, s)
 
   from-done : (m g : ℕ) (d : Doing) → m ≡ 0 → groupsFrom b gr m g d ≡ fits d
   unfolding groupsFrom
@@ -75,8 +76,8 @@ module _ (b : Build) (gr : Grouping) where
 
     pub groups-stop : (w : Went) → g < n → w .failed ≡ true → resultOf w ≡ stepOf b gr g d → resultOf w ≡ R
     groups-stop w h c s =
-        let stopped : stepOf b gr g d ≡ fails (w .group) (w .iterations) (w .tries) = sym (rw c at s) in
-        rw c (sym (from-stop (n - g) (n - (g + 1)) g (w .group) (w .iterations) (w .tries) d (omega arith) stopped) ∙ r)
+        let stopped : stepOf b gr g d ≡ fails (w .group) (w .failure) = sym (rw c at s) in
+        rw c (sym (from-stop (n - g) (n - (g + 1)) g (w .group) (w .failure) d (omega arith) stopped) ∙ r)
 
     pub groups-done : n ≤ g → fits d ≡ R
     groups-done h = sym (from-done (n - g) g d (omega arith)) ∙ r

@@ -10,6 +10,7 @@ use borrow.Author.Tests.{lt-ltb, ltb-true}
 use lib.Dec.{ltb}
 use lib.Ieee.{Float}
 use lib.ListN.{length}
+use Rattle.answer.specs.declared.GroupFit.{GroupFit}
 use Rattle.fit.specs.Fits.{converges}
 use Rattle.fit.specs.Promise.{padded}
 use Rattle.fit.specs.Frames.{startIn}
@@ -17,11 +18,12 @@ use Rattle.fit.specs.Groups.{outcomeAt, frameIn}
 use Rattle.groups.specs.Listed.{groupingOf}
 use Rattle.groups.specs.declared.Grouping.{Grouping}
 use Rattle.rounds.specs.Solve.{Outcome, converged, failed}
+use Rattle.rounds.specs.declared.Reason.{Reason}
 use Rattle.sketch.specs.Check.{checkOf, ordered, overBound, outOfBounds, refersToNothing, overRows}
 use Rattle.sketch.specs.Rows.{rowsOfBuild}
 use Rattle.sketch.specs.declared.Build.{Build}
 use Rattle.job.specs.Given.{TooMany, TooShort, SomeFails, AllFit, Sound, GivenExactly, LowestFails, HandsOutNothing}
-use Rattle.job.specs.Groups.{Result, fits, fails, takenOf, stepOf, groupsFrom, groupCount, begin, fitOf, outputBy}
+use Rattle.job.specs.Groups.{Result, fits, fails, takenOf, failingOf, stepOf, groupsFrom, groupCount, begin, fitOf, outputBy}
 use Rattle.job.specs.Promise.{noRoom, inOrder, verdictOf, outputAfter, unfit, firstRow}
 use Rattle.job.specs.declared.Doing.{Doing}
 use Rattle.job.proofs.Few.{all-counted}
@@ -38,46 +40,58 @@ module _ (b : Build) (gr : Grouping) where
   unfolding groupsFrom stepOf
   goes-on k g d x i t e = rw e
 
-  pub stops : (k g : ℕ) (d : Doing) (i t : ℕ) → outcomeAt b gr g ≡ failed i t → groupsFrom b gr (suc k) g d ≡ fails g i t
+  pub stops : (k g : ℕ) (d : Doing) (w : Reason) (i t : ℕ) → outcomeAt b gr g ≡ failed w i t → groupsFrom b gr (suc k) g d ≡ fails g (failingOf (frameIn b gr g) w i t)
   unfolding groupsFrom stepOf
-  stops k g d i t e = rw e
+  stops k g d w i t e = rw e
 
-  -- group j, among those from lo up to hi, fails after i iterations and t tries, and all before it converge
-  record First (lo hi j i t : ℕ) : Type 0 where
+  -- group j, among those from lo up to hi, fails, u is answered of it, and all before it converge
+  record First (lo hi j : ℕ) (u : GroupFit) : Type 0 where
     from : lo ≤ j
     below : j < hi
-    outcome : outcomeAt b gr j ≡ failed i t
+    why : Reason
+    iterations : ℕ
+    tries : ℕ
+    outcome : outcomeAt b gr j ≡ failed why iterations tries
+    answered : u ≡ failingOf (frameIn b gr j) why iterations tries
     earlier : (l : ℕ) → lo ≤ l → l < j → converges (outcomeAt b gr l) ≡ true
 
-  first : (k g : ℕ) (d : Doing) (j i t : ℕ) → groupsFrom b gr k g d ≡ fails j i t → First g (g + k) j i t
-  first zero g d j i t h =
-      let z : fits d ≡ fails j i t = sym (none-left g d) ∙ h in
+  first : (k g : ℕ) (d : Doing) (j : ℕ) (u : GroupFit) → groupsFrom b gr k g d ≡ fails j u → First g (g + k) j u
+  first zero g d j u h =
+      let z : fits d ≡ fails j u = sym (none-left g d) ∙ h in
       let no : _≡_ {A = ℕ} 0 1 = cc in
       absurd (omega arith)
-  first (suc k) g d j i t h = go (outcomeAt b gr g) refl (λ d′. first k (g + 1) d′ j i t)
+  first (suc k) g d j u h = go (outcomeAt b gr g) refl (λ d′. first k (g + 1) d′ j u)
     where
-      earlier : (l : ℕ) → g ≤ l → l < j → converges (outcomeAt b gr g) ≡ true → First (g + 1) (g + 1 + k) j i t → Dec (g < l) → converges (outcomeAt b gr l) ≡ true
+      earlier : (l : ℕ) → g ≤ l → l < j → converges (outcomeAt b gr g) ≡ true → First (g + 1) (g + 1 + k) j u → Dec (g < l) → converges (outcomeAt b gr l) ≡ true
       earlier l p q c s (yes v) = s .earlier l (omega arith) q
       earlier l p q c s (no v) = let same : l ≡ g = omega arith in rw same c
 
-      go : (o : Outcome) → outcomeAt b gr g ≡ o → ((d′ : Doing) → groupsFrom b gr k (g + 1) d′ ≡ fails j i t → First (g + 1) (g + 1 + k) j i t) → First g (g + suc k) j i t
+      go : (o : Outcome) → outcomeAt b gr g ≡ o → ((d′ : Doing) → groupsFrom b gr k (g + 1) d′ ≡ fails j u → First (g + 1) (g + 1 + k) j u) → First g (g + suc k) j u
       go (converged x m n) e later =
           let s = later _ (sym (goes-on k g d x m n e) ∙ h) in
           let c : converges (outcomeAt b gr g) ≡ true = rw e in
           record {
             from = omega (arith, s .from);
             below = omega (arith, s .below);
+            why = s .why;
+            iterations = s .iterations;
+            tries = s .tries;
             outcome = s .outcome;
+            answered = s .answered;
             earlier = λ l p q. earlier l p q c s (decLt g l);
           }
-      go (failed m n) e later =
-          let s : fails g m n ≡ fails j i t = sym (stops k g d m n e) ∙ h in
+      go (failed w m n) e later =
+          let s : fails g (failingOf (frameIn b gr g) w m n) ≡ fails j u = sym (stops k g d w m n e) ∙ h in
           let same : g ≡ j = cc in
-          let counts : _≡_ {A = Outcome} (failed m n) (failed i t) = cc in
+          let shown : u ≡ failingOf (frameIn b gr g) w m n = cc in
           record {
             from = omega arith;
             below = omega arith;
-            outcome = rw (← same) (e ∙ counts);
+            why = w;
+            iterations = m;
+            tries = n;
+            outcome = rw (← same) e;
+            answered = rw (← same) shown;
             earlier = λ l p q. absurd (omega arith);
           }
 
@@ -89,8 +103,8 @@ module _ (b : Build) (gr : Grouping) where
           → converges (outcomeAt b gr l) ≡ true
       go (converged x m n) e (yes v) later = later _ (sym (goes-on k g d x m n e) ∙ h) (omega arith)
       go (converged x m n) e (no v) later = let same : l ≡ g = omega arith in rw (same, e)
-      go (failed m n) e v later =
-          let z : fails g m n ≡ fits f = sym (stops k g d m n e) ∙ h in
+      go (failed w m n) e v later =
+          let z : fails g (failingOf (frameIn b gr g) w m n) ≡ fits f = sym (stops k g d w m n e) ∙ h in
           let no : _≡_ {A = ℕ} 0 1 = cc in
           absurd (omega arith)
 
@@ -196,7 +210,7 @@ module _ (b : Build) where
 
   nothing-of : (out : List Float) (R : Result) → firstRow false false false false false (unfit R) ≢ 0 → outputBy b (groupingOf b) R out ≡ out
   nothing-of out (fits d) h = absurd (h refl)
-  nothing-of out (fails g i t) h = refl
+  nothing-of out (fails g u) h = refl
 
   nothing-after : (out : List Float) (o n u m r : Bool) → firstRow o n u m r (unfit (fitOf b)) ≢ 0
       → outputAfter b out (inOrder o n (ordered o u m r)) ≡ out
@@ -214,9 +228,17 @@ module _ (b : Build) where
 
   pub lowest-fails : LowestFails b
   unfolding fitOf
-  lowest-fails j i t h =
-      let s = first b (groupingOf b) (groupCount b (groupingOf b)) 0 (begin b) j i t h in
-      (omega (arith, s .below, all-counted b), s .outcome, λ l k. s .earlier l (omega arith) k)
+  lowest-fails j u h =
+      let s = first b (groupingOf b) (groupCount b (groupingOf b)) 0 (begin b) j u h in
+      record {
+        group = omega (arith, s .below, all-counted b);
+        why = s .why;
+        iterations = s .iterations;
+        tries = s .tries;
+        outcome = s .outcome;
+        answered = s .answered;
+        earlier = λ l k. s .earlier l (omega arith) k;
+      }
 
   all-of : (d : Doing) → fitOf b ≡ fits d → AllFit b
   unfolding fitOf
@@ -224,7 +246,7 @@ module _ (b : Build) where
 
   some-of : (R : Result) → fitOf b ≡ R → unfit R ≡ true → SomeFails b
   some-of (fits d) e h = let no : _≡_ {A = Bool} false true = h in let z : _≡_ {A = ℕ} 0 1 = cc in absurd (omega arith)
-  some-of (fails j i t) e h = let s = lowest-fails j i t e in (j, s .0, rw (s .1))
+  some-of (fails j u) e h = let s = lowest-fails j u e in (j, s .group, rw (s .outcome))
 
   some-fails : unfit (fitOf b) ≡ true → SomeFails b
   some-fails h = some-of (fitOf b) refl h
@@ -235,21 +257,21 @@ module _ (b : Build) where
 
   fails-of : (R : Result) → fitOf b ≡ R → SomeFails b → unfit R ≡ true
   fails-of (fits d) e s = let z = apart s (all-of d e) in cc
-  fails-of (fails j i t) e s = refl
+  fails-of (fails j u) e s = refl
 
   pub fails-some : SomeFails b → unfit (fitOf b) ≡ true
   fails-some s = fails-of (fitOf b) refl s
 
   fit-of : (R : Result) → fitOf b ≡ R → unfit R ≡ false → AllFit b
   fit-of (fits d) e h = all-of d e
-  fit-of (fails j i t) e h = let no : _≡_ {A = Bool} true false = h in let z : _≡_ {A = ℕ} 0 1 = cc in absurd (omega arith)
+  fit-of (fails j u) e h = let no : _≡_ {A = Bool} true false = h in let z : _≡_ {A = ℕ} 0 1 = cc in absurd (omega arith)
 
   all-fit : unfit (fitOf b) ≡ false → AllFit b
   all-fit h = fit-of (fitOf b) refl h
 
   none-of : (R : Result) → fitOf b ≡ R → AllFit b → unfit R ≡ false
   none-of (fits d) e a = refl
-  none-of (fails j i t) e a = let z = apart (some-of (fails j i t) e refl) a in cc
+  none-of (fails j u) e a = let z = apart (some-of (fails j u) e refl) a in cc
 
   fit-all : AllFit b → unfit (fitOf b) ≡ false
   fit-all a = none-of (fitOf b) refl a

@@ -10,13 +10,15 @@ use mathlib.Core.Path.{_≡_}
 use lib.Ieee.{Float}
 use lib.ListN.{length}
 use Rattle.fit.specs.Fits.{converges}
-use Rattle.fit.specs.Groups.{outcomeAt}
+use Rattle.answer.specs.declared.GroupFit.{GroupFit}
+use Rattle.fit.specs.Groups.{frameIn, outcomeAt}
 use Rattle.groups.specs.Listed.{groupingOf}
 use Rattle.rounds.specs.Solve.{failed}
+use Rattle.rounds.specs.declared.Reason.{Reason}
 use Rattle.sketch.specs.Check.{overBound, outOfBounds, refersToNothing, overRows}
 use Rattle.sketch.specs.Rows.{rowsOfBuild}
 use Rattle.sketch.specs.declared.Build.{Build}
-use Rattle.job.specs.Groups.{fails, fitOf}
+use Rattle.job.specs.Groups.{fails, failingOf, fitOf}
 use Rattle.job.specs.Promise.{noRoom, numberIn, verdict, outputAfter}
 
 -- 3: more than 40 points, lines or equations, or 20 measures
@@ -59,10 +61,18 @@ pub record GivenExactly (b : Build) (out p q r : ℕ) : Type 0 where
   pub fitted : numberIn b out p q r ≡ 0 ↔ Sound b out p q r × AllFit b
   pub not-of-text : (numberIn b out p q r ≢ 1) × (numberIn b out p q r ≢ 2)
 
--- the failing group is the lowest that does not converge, with its own counts
+-- the failing group is the lowest that does not converge, with its own reason and counts
+pub record LowestFailing (b : Build) (j : ℕ) (u : GroupFit) : Type 0 where
+  pub group : j < groupingOf b .count
+  pub why : Reason
+  pub iterations : ℕ
+  pub tries : ℕ
+  pub outcome : outcomeAt b (groupingOf b) j ≡ failed why iterations tries
+  pub answered : u ≡ failingOf (frameIn b (groupingOf b) j) why iterations tries
+  pub earlier : (l : ℕ) → l < j → fitsAt b l ≡ true
+
 abbrev pub LowestFails : Build → Type 0
-LowestFails b = (j i t : ℕ) → fitOf b ≡ fails j i t
-    → (j < groupingOf b .count) × (outcomeAt b (groupingOf b) j ≡ failed i t) × ((l : ℕ) → l < j → fitsAt b l ≡ true)
+LowestFails b = (j : ℕ) (u : GroupFit) → fitOf b ≡ fails j u → LowestFailing b j u
 
 -- a job that is not fitted hands out nothing: its output is as it was
 abbrev pub HandsOutNothing : Build → Type 0

@@ -8,10 +8,11 @@ use lib.Ieee.{Float}
 use lib.ListN.{length, getD, set, replicate}
 use Rattle.answer.specs.Endings.{blankGroup, failedOf, fittedOf}
 use Rattle.answer.specs.declared.Answer.{Answer}
+use Rattle.answer.specs.declared.GroupFit.{GroupFit}
 use Rattle.fit.specs.Fits.{worstOf}
 use Rattle.fit.specs.Promise.{padded}
 use Rattle.fit.specs.Frames.{startIn}
-use Rattle.fit.specs.Groups.{lowestOf, freedomIn, frameIn, outcomeAt, suspectsAt, lowestAt}
+use Rattle.fit.specs.Groups.{lowestOf, freedomIn, frameIn, outcomeAt, suspectsAt}
 use Rattle.fit.specs.declared.Frame.{Frame}
 use Rattle.fit.specs.declared.Degrees.{Degrees}
 use Rattle.floats.specs.Magnitude.{maxOf}
@@ -22,25 +23,28 @@ use Rattle.loops.specs.Turns.{upTo}
 use Rattle.members.specs.Lists.{numbersOf}
 use Rattle.members.specs.Movable.{fixedOf, nowhere}
 use Rattle.members.specs.Scale.{unscaleOf}
+use Rattle.rounds.specs.Reasons.{codeOf, namedColumn, codeIn, namedColumnIn}
 use Rattle.rounds.specs.Solve.{Outcome, converged, failed}
+use Rattle.rounds.specs.declared.Reason.{Reason}
+use Rattle.rounds.specs.declared.Solved.{Solved}
 use Rattle.sketch.specs.declared.Build.{Build}
 use Rattle.sketch.specs.declared.Point.{Point}
 use Rattle.job.specs.Points.{drawn, handedOut}
 use Rattle.job.specs.declared.Doing.{Doing}
 use Rattle.job.specs.declared.Went.{Went}
 
--- what the groups come to: all are fitted, or one does not converge, after so many iterations and tries
+-- what the groups come to: all are fitted, or one does not converge, of which this is answered
 pub data Result : Type 0 where
   fits : Doing → Result
-  fails : ℕ → ℕ → ℕ → Result
+  fails : ℕ → GroupFit → Result
 
 abbrev pub followed : Result → (Doing → Result) → Result
 followed (fits d) k = k d
-followed (fails g i t) k = fails g i t
+followed (fails g u) k = fails g u
 
 -- as the code holds it
 abbrev pub resultOf : Went → Result
-resultOf w = cond (w .failed) (fails (w .group) (w .iterations) (w .tries)) (fits (w .doing))
+resultOf w = cond (w .failed) (fails (w .group) (w .failure)) (fits (w .doing))
 
 -- what a call for the freedom came to, as a number
 abbrev pub countOf : Degrees → ℕ
@@ -54,13 +58,21 @@ takenOf b f g x i t d = record {
   points = unscaleOf (b .points) (b .centre) (b .size) (numbersOf (f .points .0)) x (d .points);
   freedom = d .freedom + freedomIn b f x;
   worst = maxOf (d .worst) (worstOf b f x);
-  groups = set (d .groups) g (record { lowest = lowestOf f; freedom = freedomIn b f x; iterations = i; tries = t });
+  groups = set (d .groups) g (record { lowest = lowestOf f; freedom = freedomIn b f x; iterations = i; tries = t; code = 0; column = 0 });
 }
+
+-- what is answered of a group, set out as f, that does not converge: document 02's code and column with its lowest point and counts
+abbrev pub failingOf : Frame → Reason → ℕ → ℕ → GroupFit
+failingOf f w i t = record { lowest = lowestOf f; freedom = 0; iterations = i; tries = t; code = codeOf w; column = namedColumn w }
+
+-- as the code has it from how the fit ended
+abbrev pub failingBy : Frame → Solved → GroupFit
+failingBy f s = record { lowest = lowestOf f; freedom = 0; iterations = s .iterations; tries = s .tries; code = codeIn (s .ending); column = namedColumnIn (s .ending) }
 
 -- `match fitted`; the coordinates of a fit stand at the head of 80 places
 abbrev pub stepBy : Build → Frame → ℕ → Doing → Outcome → Result
 stepBy b f g d (converged x i t) = fits (takenOf b f g (padded (length (startIn b f)) x) i t d)
-stepBy b f g d (failed i t) = fails g i t
+stepBy b f g d (failed w i t) = fails g (failingOf f w i t)
 
 -- free, and in no group
 abbrev pub looseBy : Point → ℕ → Bool
@@ -95,11 +107,11 @@ module _ (b : Build) (gr : Grouping) where
 
   abbrev pub answerBy : Result → Answer
   answerBy (fits d) = fittedOf groupCount (d .groups) (d .freedom + 2 * looseCount) (d .worst)
-  answerBy (fails g i t) = failedOf (record { lowest = lowestAt b gr g; freedom = 0; iterations = i; tries = t }) (suspectsAt b gr g)
+  answerBy (fails g u) = failedOf u (suspectsAt b gr g)
 
   abbrev pub outputBy : Result → List Float → List Float
   outputBy (fits d) out = handedOut b (d .points) out
-  outputBy (fails g i t) out = out
+  outputBy (fails g u) out = out
 
 -- before the first group
 unfoldable pub begin : Build → Doing

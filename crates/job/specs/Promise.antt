@@ -43,7 +43,7 @@ verdictOf b out p q r = inOrder (overBound b) (noRoom b out p q r) (checkOf b)
 -- 7: some group does not converge
 abbrev pub unfit : Result → Bool
 unfit (fits d) = false
-unfit (fails g i t) = true
+unfit (fails g u) = true
 
 -- 01's number of the first row that holds, the rows in 01's order: 3, 9, 4, 5, 6 and 7; and 0 where none does
 abbrev pub firstRow : Bool → Bool → Bool → Bool → Bool → Bool → ℕ

@@ -9,14 +9,16 @@ use lib.ListN.{length, getD, drop}
 use Rattle.answer.specs.Endings.{failedOf}
 use Rattle.answer.specs.declared.Answer.{Answer}
 use Rattle.fit.specs.Fits.{converges}
-use Rattle.fit.specs.Groups.{outcomeAt, outcomeWithout, residualsAt}
+use Rattle.fit.specs.Groups.{outcomeAt, ReasonAt, TellsAt, outcomeWithout, residualsAt}
 use Rattle.floats.specs.Ops.{1e-12}
 use Rattle.groups.specs.Chains.{Touches, equationsIn, Lowest}
 use Rattle.groups.specs.Listed.{groupingOf}
 use Rattle.groups.specs.Touches.{touchedBy}
 use Rattle.measures.specs.Gauges.{gaugedOf}
 use Rattle.rounds.specs.Promise.{zeroed}
+use Rattle.rounds.specs.Reasons.{codeOf, namedColumn}
 use Rattle.rounds.specs.Solve.{converged, failed}
+use Rattle.rounds.specs.declared.Reason.{Reason}
 use Rattle.sketch.specs.declared.Build.{Build}
 use Rattle.solver.specs.Sums.{AllWithin}
 use Rattle.job.specs.Given.{fitsAt}
@@ -51,8 +53,9 @@ MeasuresAsHandedOut b = (out p q r : List Float) → numberIn b (length out) (le
     × (length points ≡ 2 * b .«point_count»)
     × (outputAfter b out (verdict b out p q r) ≡ points ++ (gaugedOf b points ++ drop (2 * b .«point_count» + b .«measure_count») out))
 
--- 7 names the lowest group that does not converge: the answer has its lowest point and the iterations and tries of its own fit, and marks
--- equation k exactly when it is in that group and the group without it converges
+-- 7 names the lowest group that does not converge: the answer has its lowest point, the iterations and tries of its own fit with all its
+-- equations, and why that failed, by document 02's code and column; what the reason says holds (`reason`), and the column is 0 exactly when
+-- the code is not 2 (`tells`). It marks equation k exactly when it is in that group and the group without it converges
 pub record Names (b : Build) (a : Answer) : Type 0 where
   pub group : ℕ
   pub failing : Failing b group
@@ -60,9 +63,13 @@ pub record Names (b : Build) (a : Answer) : Type 0 where
   pub is-lowest : Lowest (groupingOf b) group lowest
   pub iterations : ℕ
   pub tries : ℕ
-  pub counts : outcomeAt b (groupingOf b) group ≡ failed iterations tries
+  pub why : Reason
+  pub outcome : outcomeAt b (groupingOf b) group ≡ failed why iterations tries
+  pub reason : ReasonAt b (groupingOf b) group why iterations tries
+  pub tells : TellsAt b (groupingOf b) group why iterations
   pub marks : List Bool
-  pub answer : a ≡ failedOf (record { lowest = lowest; freedom = 0; iterations = iterations; tries = tries }) marks
+  pub answer : a
+      ≡ failedOf (record { lowest = lowest; freedom = 0; iterations = iterations; tries = tries; code = codeOf why; column = namedColumn why }) marks
   pub sized : length marks ≡ 40
   pub exactly : (k : ℕ) → k < 40
       → getD marks k false ≡ true ↔ List·Memᴰ k (equationsIn (groupingOf b) group) × (converges (outcomeWithout b (groupingOf b) group k) ≡ true)

@@ -7,7 +7,6 @@ ghost use Rattle.job.specs.Groups.{fits, fails, fitOf, answerBy, outputB
 ghost use Rattle.job.specs.Promise.{Does};
 ghost use Rattle.rounds.specs.Promise.{zeroed};
 use crate::Doing;
-use crate::fitting::lowest;
 use crate::freedoms::loose;
 use crate::outputs::hand_out;
 use crate::refusals::verdict;
@@ -31,31 +30,24 @@ fn fitted(b: Build, gr: Grouping, d: Doing, out: &mut [f64]) -> Answer
     answer::fitted(smaller(gr.count, 40), groups, freedom, d.worst)
 }
 
-// Group g does not converge.
-fn failing(
+// Group g does not converge, and this is answered of it.
+fn failed(
     b: Build,
     gr: Grouping,
     g: usize,
-    iterations: usize,
-    tries: usize,
+    failure: GroupFit,
     p: &mut [f64],
     q: &mut [f64],
     r: &mut [f64],
 ) -> Answer
     requires { ⌜ (6400 ≤ length (now p)) × (6400 ≤ length (now q)) × (6400 ≤ length (now r)) ⌝ }
-    ensures { λ a. ⌜ a ≡ answerBy b gr (fails g iterations tries) ⌝ }
+    ensures { λ a. ⌜ a ≡ answerBy b gr (fails g failure) ⌝ }
 {
     let points = b.points;
     let f = fit::set_out(points, gr, g);
     let m = fit::suspects(b, f, p, q, r);
     let marks = m.marks;
-    let group = GroupFit {
-        lowest: lowest(f),
-        freedom: 0,
-        iterations,
-        tries,
-    };
-    answer::failed(group, marks)
+    answer::failed(failure, marks)
 }
 
 fn fit_all(b: Build, out: &mut [f64], p: &mut [f64], q: &mut [f64], r: &mut [f64]) -> Answer
@@ -66,7 +58,8 @@ fn fit_all(b: Build, out: &mut [f64], p: &mut [f64], q: &mut [f64], r: &mut [f64
     let gr = groups::groups(b);
     let w = all_groups(b, gr, smaller(gr.count, 40), p, q, r);
     if w.failed {
-        return failing(b, gr, w.group, w.iterations, w.tries, p, q, r);
+        let failure = w.failure;
+        return failed(b, gr, w.group, failure, p, q, r);
     }
     let d = w.doing;
     fitted(b, gr, d, out)

@@ -3,18 +3,20 @@ ghost use mathlib.Core.Path.{_≡_};
 ghost use Prim.Native.Nat.{_+_, _≤_, _<_};
 ghost use lib.ListN.{length};
 ghost use Rattle.fit.specs.Groups.{lowestOf};
-ghost use Rattle.job.specs.Groups.{takenOf, resultOf, stepOf};
+ghost use Rattle.job.specs.Groups.{takenOf, failingBy, resultOf, stepOf};
 use crate::Doing;
 use crate::Went;
 use crate::freedoms::freedom_at;
 use answer::GroupFit;
+use answer::blank_group;
 use fit::Fitted;
 use fit::Frame;
 use groups::Grouping;
+use rounds::Solved;
 use rounds::converged;
 use sketch::Build;
 
-pub(crate) fn lowest(f: Frame) -> usize
+fn lowest(f: Frame) -> usize
     ensures { λ p. ⌜ p ≡ lowestOf f ⌝ }
 {
     let listed = f.points.0;
@@ -51,12 +53,29 @@ fn taken(
         freedom,
         iterations: s.iterations,
         tries: s.tries,
+        code: 0,
+        column: 0,
     };
     Doing {
         points,
         freedom: d.freedom + freedom,
         worst: floats::max(d.worst, worst),
         groups,
+    }
+}
+
+// What is answered of a group whose fit ended so: why it failed, by document 02's code.
+fn failing(f: Frame, s: Solved) -> GroupFit
+    ensures { λ u. ⌜ u ≡ failingBy f s ⌝ }
+{
+    let ending = s.ending;
+    GroupFit {
+        lowest: lowest(f),
+        freedom: 0,
+        iterations: s.iterations,
+        tries: s.tries,
+        code: rounds::code(ending),
+        column: rounds::named_column(ending),
     }
 }
 
@@ -83,16 +102,14 @@ pub(crate) fn one_group(
         return Went {
             failed: true,
             group: g,
-            iterations: s.iterations,
-            tries: s.tries,
+            failure: failing(f, s),
             doing: d,
         };
     }
     Went {
         failed: false,
         group: g,
-        iterations: 0,
-        tries: 0,
+        failure: blank_group(),
         doing: taken(b, f, g, t, d, p, q, r),
     }
 }

@@ -20,11 +20,10 @@ pub(crate) struct Doing {
     pub(crate) groups: [GroupFit; 40],
 }
 
-// What fitting a group, or the groups, came to: `doing`, or where it failed the group, its iterations and its tries.
+// What fitting a group, or the groups, came to: `doing`, or where it failed the group and what is answered of it.
 pub(crate) struct Went {
     pub(crate) failed: bool,
     pub(crate) group: usize,
-    pub(crate) iterations: usize,
-    pub(crate) tries: usize,
+    pub(crate) failure: GroupFit,
     pub(crate) doing: Doing,
 }

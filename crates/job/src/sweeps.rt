@@ -7,7 +7,7 @@ use crate::Doing;
 use crate::Went;
 use crate::fitting::one_group;
 use crate::points::starts;
-use answer::GroupFit;
+use answer::blank_group;
 use groups::Grouping;
 use sketch::Build;
 
@@ -15,12 +15,7 @@ fn begun(b: Build) -> Doing
     ensures { λ d. ⌜ d ≡ begin b ⌝ }
 {
     let points = b.points;
-    let blank = GroupFit {
-        lowest: 0,
-        freedom: 0,
-        iterations: 0,
-        tries: 0,
-    };
+    let blank = blank_group();
     Doing {
         points: starts(points),
         freedom: 0,
@@ -52,8 +47,7 @@ pub(crate) fn all_groups(
     Went {
         failed: false,
         group: n,
-        iterations: 0,
-        tries: 0,
+        failure: blank_group(),
         doing: d,
     }
 }

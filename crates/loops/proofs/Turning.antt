@@ -1,17 +1,17 @@
 -- The loops of specs/Turns.antt, turn by turn. Each has a law for a turn (-next), for an early way out (-stop) and for the end (-done).
 -- R is what the whole loop gives, so an invariant says "what is left gives R", which holds at the start by `refl`. `upTo-part` says a loop
--- on a part as a loop on the whole, `upTo-split` a loop as two, one after the other, and `fold-append` that two lists are gone over one
--- after the other. Assumes nothing.
+-- on a part as a loop on the whole, `upTo-split` a loop as two, one after the other, `tryTo-none`, `tryTo-all` and `tryTo-more` the turns
+-- from 0 on, and `fold-append` that two lists are gone over one after the other. Assumes nothing.
 use Prim.Native.Nat.{ℕ, zero, suc, _+_, _-_, _≤_, _<_}
 use mathlib.Core.Bool.{Bool, true, false}
 use mathlib.Core.List.{List, [], _∷_, _++_}
 use mathlib.Core.Path.{_≡_, refl, sym, _∙_}
-use native.Mathlib.Nat.{add-assoc, add-zero, zero-add, suc-add}
+use native.Mathlib.Nat.{add-assoc, add-zero, zero-add, suc-add, sub-zero}
 use native.Mathlib.Numerals.{add-one}
 use native.Mathlib.Omega.{arith}
 use lib.ListN.{length, getD, drop, drop-of-length-le}
 use lib.Seq.{drop-cons}
-use Rattle.loops.specs.Turns.{Try, tried, turns, upTo, downTo, tries, tryTo, whiles, whileTo, fold, every, go, stop}
+use Rattle.loops.specs.Turns.{Try, after, tried, turns, upTo, downTo, tries, tryTo, whiles, whileTo, fold, every, go, stop}
 
 -- how many turns are left: one more than after this one
 left-next : (hi i : ℕ) → i < hi → hi - i ≡ suc (hi - (i + 1))
@@ -98,6 +98,30 @@ module _ {S : Type 0} (f : ℕ → S → Try S) where
   pub tryTo-done : (hi i : ℕ) (s : S) (R : Try S) → hi ≤ i → tryTo hi i f s ≡ R → tried true s ≡ R
   unfolding tryTo
   tryTo-done hi i s R h r = sym (tries-done (hi - i) i s (left-done hi i h)) ∙ r
+
+-- the turns from 0 on: none, all of them, and one more
+module _ {S : Type 0} (f : ℕ → S → Try S) where
+  pub tryTo-none : (s : S) → tryTo 0 0 f s ≡ go s
+  unfolding tryTo tries
+  tryTo-none s = refl
+
+  pub tryTo-all : (k : ℕ) (s : S) → tryTo k 0 f s ≡ tries k 0 f s
+  unfolding tryTo
+  tryTo-all k s = rw sub-zero
+
+  tries-more : (k i : ℕ) (s u v : S) → tries k i f s ≡ go u → f (i + k) u ≡ go v → tries (suc k) i f s ≡ go v
+  unfolding tries
+  tries-more zero i s u v e h = let q : s ≡ u = cc in rw (q, rw add-zero at h)
+  tries-more (suc k) i s u v e h = by (f i s) e (λ w q. tries-more k (i + 1) w u v q (let j : (i + 1) + k ≡ i + suc k = omega arith in rw j h))
+    where
+      by : (t : Try S) → after t (tries k (i + 1) f) ≡ go u → ((w : S) → tries k (i + 1) f w ≡ go u → tries (suc k) (i + 1) f w ≡ go v) → after t (tries (suc k) (i + 1) f) ≡ go v
+      by (go w) e rest = rest w e
+      by stop e rest = cc
+
+  pub tryTo-more : (k : ℕ) (s u v : S) → tryTo k 0 f s ≡ go u → f k u ≡ go v → tryTo (k + 1) 0 f s ≡ go v
+  tryTo-more k s u v e h =
+      let j : k + 1 ≡ suc k = omega arith in
+      tryTo-all (k + 1) s ∙ rw j (tries-more k 0 s u v (sym (tryTo-all k s) ∙ e) (rw zero-add h))
 
 module _ {S : Type 0} (p : ℕ → S → Bool) (f : ℕ → S → S) where
   whiles-next : (k n i : ℕ) (s : S) → n ≡ suc k → p i s ≡ true → whiles n i p f s ≡ whiles k (i + 1) p f (f i s)

@@ -42,9 +42,18 @@ group-short g =
     simp length-append
     (omega (arith, whole-short (g .lowest) comma, whole-short (g .freedom) comma, whole-short (g .iterations) comma, whole-short (g .tries) newline))
 
-failed-short : (g : GroupFit) → length (failedLine g) ≤ 65
+failed-short : (g : GroupFit) → length (failedLine g) ≤ 107
 unfolding failedLine
-failed-short g = simp length-append (omega (arith, whole-short (g .lowest) comma, whole-short (g .iterations) comma, whole-short (g .tries) newline))
+failed-short g =
+    simp length-append
+    (omega (
+      arith,
+      whole-short (g .lowest) comma,
+      whole-short (g .iterations) comma,
+      whole-short (g .tries) comma,
+      whole-short (g .code) comma,
+      whole-short (g .column) newline,
+    ))
 
 suspect-short : (suspects : List Bool) (k : ℕ) → length (suspectLine suspects k) ≤ 23
 unfolding suspectLine

@@ -21,7 +21,7 @@ two⁻ = ofBits binary64 0xc000_0000_0000_0000
 
 -- 01's example: one group, with one degree of freedom, which fits as it is
 example : Answer
-example = fittedOf 1 (record { lowest = 0; freedom = 1; iterations = 0; tries = 0 } ∷ replicate 39 blankGroup) 3 zero⁺
+example = fittedOf 1 (record { lowest = 0; freedom = 1; iterations = 0; tries = 0; code = 0; column = 0 } ∷ replicate 39 blankGroup) 3 zero⁺
 
 example-out : List Float
 example-out = zero⁺ ∷ zero⁺ ∷ two ∷ zero⁺ ∷ half ∷ two⁻ ∷ two ∷ []
@@ -31,15 +31,21 @@ the-example :
 unfolding two⁻ example example-out replyOf statusLine totalLines groupLine pointLine measureLine rising groupLines outputLines fittedLines decimal hexDigit hexadecimal whole float toBits ofBits
 the-example = refl
 
--- the group of point 2 does not converge, and equations 1 and 12 are suspects
+-- the group of point 3 does not converge, with code 2 and a column of two digits, so that each number is seen in its place, and
+-- equations 1 and 12 are suspects
 failure : Answer
 failure =
-    failedOf (record { lowest = 2; freedom = 0; iterations = 200; tries = 2401 })
+    failedOf (record { lowest = 3; freedom = 0; iterations = 200; tries = 1024; code = 2; column = 11 })
     (false ∷ true ∷ false ∷ false ∷ false ∷ false ∷ false ∷ false ∷ false ∷ false ∷ false ∷ false ∷ true ∷ replicate 27 false)
 
-a-failure : (out : List Float) (points measures : ℕ) → replyOf failure out points measures ≡ ascii "status=7\ng=2,200,2401\nc=1\nc=12\n"
+a-failure : (out : List Float) (points measures : ℕ) → replyOf failure out points measures ≡ ascii "status=7\ng=3,200,1024,2,11\nc=1\nc=12\n"
 unfolding failure replyOf statusLine failedLine suspectLine rising failedLines decimal whole
 a-failure out points measures = refl
+
+-- iterations spent has no column, and 0 is printed for it
+no-column : failedLine (record { lowest = 0; freedom = 0; iterations = 200; tries = 611; code = 5; column = 0 }) ≡ ascii "g=0,200,611,5,0\n"
+unfolding failedLine decimal whole
+no-column = refl
 
 -- the status line alone, whatever stands in the output
 a-refusal : (out : List Float) (points measures : ℕ) → replyOf (refusedOf Ending.TooManyRows) out points measures ≡ ascii "status=6\n"

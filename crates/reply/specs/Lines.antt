@@ -1,4 +1,4 @@
--- The lines of a reply (document 01, "The text").
+-- The lines of a reply (document 01, "The text"; document 02, K6).
 use mathlib.Core.Bool.{Bool, false, cond}
 use mathlib.Core.List.{List, [], _++_}
 use Prim.Native.Nat.{ℕ, _+_, _*_}
@@ -26,9 +26,11 @@ unfoldable pub groupLine : GroupFit → List ℕ
 groupLine g =
     ascii "g=" ++ whole (g .lowest) comma ++ whole (g .freedom) comma ++ whole (g .iterations) comma ++ whole (g .tries) newline
 
--- "On 7: .. one `g` line of lowest point, iterations, tries"
+-- "On 7: .. one `g` line of lowest point, iterations, tries"; "The `g` line on 7 gains a code 1 to 5 in that order and the column
+-- counted from 1, or 0 for none"
 unfoldable pub failedLine : GroupFit → List ℕ
-failedLine g = ascii "g=" ++ whole (g .lowest) comma ++ whole (g .iterations) comma ++ whole (g .tries) newline
+failedLine g =
+    ascii "g=" ++ whole (g .lowest) comma ++ whole (g .iterations) comma ++ whole (g .tries) comma ++ whole (g .code) comma ++ whole (g .column) newline
 
 -- equation k's, where it is a suspect
 unfoldable pub suspectLine : List Bool → ℕ → List ℕ

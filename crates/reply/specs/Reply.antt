@@ -1,5 +1,6 @@
--- The reply to a job, as a definition of its answer and its output (document 01, "The text"): the status line, and after a fit the
--- totals, the groups, the points and the measures; after 7 the failing group and its suspects; otherwise no more.
+-- The reply to a job, as a definition of its answer and its output (document 01, "The text"; document 02, K6): the status line, and
+-- after a fit the totals, the groups, the points and the measures; after 7 the failing group with its reason, and its suspects;
+-- otherwise no more.
 use mathlib.Core.List.{List, [], _++_}
 use Prim.Native.Nat.{ℕ, zero, suc, _+_, _*_, min}
 use lib.Ieee.{Float}

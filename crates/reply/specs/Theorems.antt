@@ -15,8 +15,8 @@ use Rattle.spelling.specs.Printed.{wholeText, floatText}
 use Rattle.reply.specs.Figures.{comma, newline, whole, float}
 use Rattle.reply.specs.Reply.{replyOf}
 
--- ---- what is printed (document 01, "The text"), said by lists and not by the places of arrays: `prints-fit`, `prints-failure`,
--- `suspects-are` and `prints-number` (proofs/Printed.antt)
+-- ---- what is printed (document 01, "The text"; document 02, K6), said by lists and not by the places of arrays: `prints-fit`,
+-- `prints-failure`, `suspects-are` and `prints-number` (proofs/Printed.antt)
 
 -- "A `g` line is lowest point, freedom, iterations, tries"
 abbrev pub gLine : GroupFit → List ℕ
@@ -64,7 +64,8 @@ pub record SuspectsAre (marks : List Bool) : Type 0 where
   pub rise : Pairwise _<_ (suspectsIn marks)
   pub exactly : (k : ℕ) → List·Mem k (suspectsIn marks) ↔ getD marks k false ≡ true
 
--- 7: one `g` line of the answer's first group, its lowest point, iterations and tries, and a `c` line for each of the 40 equations
+-- 7: one `g` line of the answer's first group, its lowest point, iterations and tries, its code and its column ("The `g` line on 7
+-- gains a code 1 to 5 in that order and the column counted from 1, or 0 for none"), and a `c` line for each of the 40 equations
 -- that is marked
 abbrev pub PrintsFailure : Type 0
 PrintsFailure = (a : Answer) (failing : GroupFit) (unused : List GroupFit) (out : List Float) (points measures : ℕ)
@@ -72,7 +73,8 @@ PrintsFailure = (a : Answer) (failing : GroupFit) (unused : List GroupFit) (out 
     → a .groups ≡ failing ∷ unused → length (a .suspects) ≡ 40
     → replyOf a out points measures
     ≡ ascii "status=7\n"
-    ++ ascii "g=" ++ whole (failing .lowest) comma ++ whole (failing .iterations) comma ++ whole (failing .tries) newline
+    ++ ascii "g=" ++ whole (failing .lowest) comma ++ whole (failing .iterations) comma ++ whole (failing .tries) comma
+    ++ whole (failing .code) comma ++ whole (failing .column) newline
     ++ flatMap cLine (suspectsIn (a .suspects))
 
 -- any other number: the status line alone

@@ -44,7 +44,9 @@ pub(crate) fn failed_line(reply: &mut [u8], at: usize, failing: GroupFit) -> usi
     let at = word(reply, at, b"g=");
     let at = put_whole(reply, at, failing.lowest, b',');
     let at = put_whole(reply, at, failing.iterations, b',');
-    put_whole(reply, at, failing.tries, b'\n')
+    let at = put_whole(reply, at, failing.tries, b',');
+    let at = put_whole(reply, at, failing.code, b',');
+    put_whole(reply, at, failing.column, b'\n')
 }
 
 // Nothing where equation k is no suspect.

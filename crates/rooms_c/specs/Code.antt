@@ -1,25 +1,35 @@
 -- What the calls say where no enum can be handed over.
-use Prim.Native.Nat.{ℕ, _+_}
+use Prim.Native.Nat.{ℕ, _+_, _≤_}
 use mathlib.Core.List.{List}
 use mathlib.Core.Path.{_≡_}
 use lib.Ieee.{Float}
 use Rattle.loops.specs.Numbers as number
 use Rattle.solver.specs.declared.Elimination.{Elimination}
-use Rattle.solver.specs.declared.Elimination.the-variants.{Some, None, TooMany, TooShort}
+use Rattle.solver.specs.declared.Elimination.the-variants.{Some, NoPivot, NotFinite, TooMany, TooShort}
 use Rattle.solver.specs.Promise.{answerOf, matrixAfter, rightAfter}
 use Rattle.nullspace.specs.declared.NullSpace.{NullSpace}
 use Rattle.nullspace.specs.declared.NullSpace.the-variants as nullspace
 use Rattle.nullspace.specs.Promise as spanned
 
--- document 01's number for a refusal, and 0 or 255 where the call is carried out
-abbrev pub codeOf : Elimination → ℕ
-codeOf Some = number.fitted
-codeOf None = 255
-codeOf TooMany = number.tooMany
-codeOf TooShort = number.tooShort
+-- document 01's number for a refusal; where the call is carried out, 0, 255 for a result that is not finite, and 256 and the column, counted
+-- from 1, that has no pivot
+abbrev pub solvedCode : Elimination → ℕ
+solvedCode Some = number.fitted
+solvedCode (NoPivot c) = 256 + c
+solvedCode NotFinite = 255
+solvedCode TooMany = number.tooMany
+solvedCode TooShort = number.tooShort
+
+-- a column that is named is one of 80
+abbrev pub Named : Elimination → Type 0
+Named Some = Unit {0}
+Named (NoPivot c) = c ≤ 80
+Named NotFinite = Unit {0}
+Named TooMany = Unit {0}
+Named TooShort = Unit {0}
 
 pub record SolvesC (n : ℕ) (a b a′ b′ : List Float) (r : ℕ) : Type 0 where
-  pub answer : r ≡ codeOf (answerOf n a b)
+  pub answer : r ≡ solvedCode (answerOf n a b)
   pub matrix : a′ ≡ matrixAfter n a b
   pub right : b′ ≡ rightAfter n a b
 

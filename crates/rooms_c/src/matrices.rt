@@ -1,24 +1,26 @@
 // `solver` and `nullspace`: bare matrices and lists.
 ghost use mathlib.Core.Path.{_≡_};
 ghost use Rattle.solver.specs.Sums.{maxAbsOf, norm2Of};
-ghost use Rattle.rooms_c.specs.Code.{SolvesC, SpansC, codeOf, rankCode};
+ghost use Rattle.rooms_c.specs.Code.{SolvesC, SpansC, Named, solvedCode, rankCode};
 use nullspace::NullSpace;
 use solver::Elimination;
 
-// `solver::solve_dense`: 0 solved, 255 no answer, 3 and 9 refused.
+// `solver::solve_dense`: 0 solved, 3 and 9 refused, 255 a result that is not finite, 256 and the column, counted from 1, without a pivot.
 #[no_mangle]
-pub extern "C" fn rooms_solve_dense(a: &mut [f64], b: &mut [f64], n: usize) -> u8
+pub extern "C" fn rooms_solve_dense(a: &mut [f64], b: &mut [f64], n: usize) -> usize
     ensures { λ r. ⌜ SolvesC n (now (a .entry)) (now (b .entry)) (now (a .exit)) (now (b .exit)) r ⌝ }
 {
     code(solver::solve_dense(a, b, n))
 }
 
-fn code(e: Elimination) -> u8
-    ensures { λ r. ⌜ r ≡ codeOf e ⌝ }
+fn code(e: Elimination) -> usize
+    requires { ⌜ Named e ⌝ }
+    ensures { λ r. ⌜ r ≡ solvedCode e ⌝ }
 {
     match e {
         Elimination::Some => 0,
-        Elimination::None => 255,
+        Elimination::NoPivot(column) => 256 + column,
+        Elimination::NotFinite => 255,
         Elimination::TooMany => 3,
         Elimination::TooShort => 9,
     }

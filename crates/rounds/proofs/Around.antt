@@ -1,6 +1,6 @@
 -- From what the calls of a round, and of the rounds, promise to the definition. Assumes nothing.
 use Prim.Native.Nat.{ℕ, zero, suc, _+_, _-_, _*_, _≤_, _<_}
-use mathlib.Core.Bool.{Bool, true, false, not, cond, _||_}
+use mathlib.Core.Bool.{Bool, true, false, not, _||_}
 use mathlib.Core.List.{List, append-nil}
 use mathlib.Core.Path.{_≡_, refl, sym, ap, _∙_}
 use native.Mathlib.Nat.{le-refl}
@@ -9,7 +9,6 @@ use borrow.Author.Tests.{le-leb, le-ltb}
 use lib.Dec.{eqb}
 use lib.Ieee.{Float}
 use lib.ListN.{length, drop-of-length-le}
-use Rattle.loops.specs.Turns.{Try, go, stop}
 use Rattle.normal.specs.Normal.{productOf, diagMaxOf}
 use Rattle.normal.specs.Promise.{Multiplies, Tops}
 use Rattle.normal.specs.declared.Largest.{Largest}
@@ -18,15 +17,16 @@ use Rattle.rows.specs.Column.{laid, laidIn}
 use Rattle.slopes.specs.Dense.{jacobianOf}
 use Rattle.sketch.specs.declared.Active.{Active}
 use Rattle.sketch.specs.declared.Line.{Line}
+use Rattle.solver.specs.Reasons.{Reasoned}
 use Rattle.rounds.proofs.Column.{table-is}
 use Rattle.rounds.specs.Inside.{begunFit, largestIn, polishedFit, stepBy, stepOf, triesAt, endedOf}
 use Rattle.rounds.proofs.Holding.{round-own}
 use Rattle.rounds.specs.Problem.{rowCount, jacobianAt, stateOf, triedOf}
-use Rattle.rounds.specs.Solve.{Problem, State, Trial, Tried, Outcome, converged, within, judged, trialOf, tryOf, triesOf, orNext, better, taken, harder, begun, roundOf, roundsOf, ended, decided}
+use Rattle.rounds.specs.Solve.{Problem, State, Trial, Tried, Outcome, converged, within, judged, trialOf, tryOf, triesOf, orNext, begun, roundOf, roundsOf, ended, decided}
 use Rattle.rounds.specs.declared.Attempted.{Attempted}
 use Rattle.rounds.specs.declared.Fit.{Fit}
 use Rattle.rounds.specs.declared.Step.{Step}
-use Rattle.rounds.proofs.Turn.{counted}
+use Rattle.rounds.proofs.Turn.{of-try, counted}
 
 -- ---- what a round begins with
 
@@ -61,20 +61,15 @@ module _ (P : Problem) (J : List Float → List Float) where
 -- ---- how far a round's counts go
 
 module _ (P : Problem) (j a : List Float) (m : Float) where
-  kept : (s : State) (o : Try Trial) → judged s o .state .iterations ≡ s .iterations
-  kept s stop = refl
-  kept s (go t) = pick (better s t)
-    where
-      pick : (b : Bool) → cond {A = Tried} b (record { improved = true; state = taken s t }) (record { improved = false; state = harder s }) .state .iterations ≡ s .iterations
-      pick true = refl
-      pick false = refl
+  kept : (s : State) (o : Reasoned Trial) → judged s o .state .iterations ≡ s .iterations
+  kept s = of-try (λ t. t .state .iterations ≡ s .iterations) s (λ t. refl) (λ w. refl)
 
   next-kept : (n : ℕ) (next : State → Tried) → ((u : State) → next u .state .iterations ≡ u .iterations) → (b : Bool) (u : State) → u .iterations ≡ n
       → orNext b u next .state .iterations ≡ n
   next-kept n next rest true u e = e
   next-kept n next rest false u e = rest u ∙ e
 
-  tries-kept : (k : ℕ) (s : State) → triesOf P j a m k s .state .iterations ≡ s .iterations
+  pub tries-kept : (k : ℕ) (s : State) → triesOf P j a m k s .state .iterations ≡ s .iterations
   unfolding triesOf tryOf
   tries-kept zero s = refl
   tries-kept (suc k) s =

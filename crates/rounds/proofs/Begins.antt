@@ -130,7 +130,7 @@ module _ (es : List Active) (ls : List Line) (places columns chosen free : List 
 
       pub done-failed : e .converged ≡ false → Solves es ls places columns chosen free x a b c x a′ b′ c′ s
       done-failed f =
-          let g : failed (e .fit .iterations) (e .fit .tries) ≡ outcomeOf es ls places columns chosen free x = rw f at came in
+          let g : failed (e .fit .why) (e .fit .iterations) (e .fit .tries) ≡ outcomeOf es ls places columns chosen free x = rw f at came in
           record { answer = rw (m, n, ← g, t, f); meaning = rw (t, f, m, n, ← g); coordinates = rw (m, n, ← g); jacobian = rw (m, n, l .jacobian); product = rw (m, n, l .product); copy = rw (m, n, l .copy) }
 
       pub done-converged : (x′ : List Float) → e .converged ≡ true → x′ ≡ here′ → Solves es ls places columns chosen free x a b c x′ a′ b′ c′ s

@@ -6,9 +6,9 @@ use mathlib.Core.Path.{_≡_, refl, sym, ap, subst, _∙_}
 use lib.Dec.{eqb}
 use lib.Ieee.{Float}
 use lib.ListN.{length}
-use Rattle.loops.specs.Turns.{Try, go, stop, after}
 use Rattle.normal.specs.Normal.{productOf, diagMaxOf, dampedOf, movedOf}
-use Rattle.solver.specs.Steps.{solutionOf}
+use Rattle.solver.specs.Reasons.{Reasoned, some, noPivot, notFinite, onSome, reasonedOf}
+use Rattle.rounds.specs.declared.Reason.the-variants.{NotLess}
 use Rattle.rounds.specs.Holds.{FitHolds}
 use Rattle.rounds.specs.Solve.{Problem, State, Tried, Outcome, converged, failed, within, better, taken, harder, judged, orNext, trialAt, trialOf, tryOf, triesOf, begun, roundOf, polished, decided, ended, roundsOf, startOf, opened, solveOf}
 
@@ -17,11 +17,12 @@ module _ (P : Problem) (jacobian : List Float → List Float) where
   abbrev Own : State → Type 0
   Own s = s .r ≡ P .values (s .x)
 
-  judged-own : (s : State) (f : List Float → List Float) (o : Try (List Float)) → Own s → Own (judged s (after o (λ y. go (trialAt P (f y)))) .state)
-  judged-own s f stop h = h
-  judged-own s f (go y) h = pick (better s (trialAt P (f y)))
+  judged-own : (s : State) (f : List Float → List Float) (o : Reasoned (List Float)) → Own s → Own (judged s (onSome o (λ y. some (trialAt P (f y)))) .state)
+  judged-own s f (noPivot c) h = h
+  judged-own s f notFinite h = h
+  judged-own s f (some y) h = pick (better s (trialAt P (f y)))
     where
-      pick : (b : Bool) → Own (cond {A = Tried} b (record { improved = true; state = taken s (trialAt P (f y)) }) (record { improved = false; state = harder s }) .state)
+      pick : (b : Bool) → Own (cond {A = Tried} b (record { improved = true; state = taken s (trialAt P (f y)) }) (record { improved = false; state = harder NotLess s }) .state)
       pick true = refl
       pick false = h
 
@@ -29,7 +30,7 @@ module _ (P : Problem) (jacobian : List Float → List Float) where
   unfolding tryOf trialOf
   try-own j a m s h =
       judged-own s (λ y. movedOf (P .rows) (length (P .free)) j y (P .free) (s .x))
-      (solutionOf (P .rows) (dampedOf (P .rows) (s .mu) m a) (s .r)) h
+      (reasonedOf (P .rows) (dampedOf (P .rows) (s .mu) m a) (s .r)) h
 
   next-own : (b : Bool) (s : State) (next : State → Tried) → ((u : State) → Own u → Own (next u .state)) → Own s → Own (orNext b s next .state)
   next-own true s next keeps h = h
@@ -51,7 +52,7 @@ module _ (P : Problem) (jacobian : List Float → List Float) where
   -- a fit that came to o is one
   Sound : Outcome → Type 0
   Sound (converged x i t) = within (P .values x) ≡ true
-  Sound (failed i t) = Unit {0}
+  Sound (failed w i t) = Unit {0}
 
   done-sound : (s : State) → Own s → within (s .r) ≡ true → Sound (converged (s .x) (s .iterations) (s .tries))
   unfolding Sound
@@ -61,7 +62,7 @@ module _ (P : Problem) (jacobian : List Float → List Float) where
   unfolding Sound
   decided-sound s h = pick (within (s .r)) refl
     where
-      pick : (b : Bool) → within (s .r) ≡ b → Sound (cond b (converged (s .x) (s .iterations) (s .tries)) (failed (s .iterations) (s .tries)))
+      pick : (b : Bool) → within (s .r) ≡ b → Sound (cond b (converged (s .x) (s .iterations) (s .tries)) (failed (s .why) (s .iterations) (s .tries)))
       pick true w = ap within (sym h) ∙ w
       pick false w = tt
 

@@ -4,3 +4,4 @@ pub mod Around
 pub mod Begins
 pub mod Column
 pub mod Holding
+pub mod Reasons

@@ -1,6 +1,6 @@
 -- From what the calls of a try, and of a round's tries, promise to the definition. Assumes nothing.
 use Prim.Native.Nat.{ℕ, suc, _+_, _-_, _≤_, _<_}
-use mathlib.Core.Bool.{Bool, true, false, cond, _&&_}
+use mathlib.Core.Bool.{Bool, true, false, _&&_}
 use mathlib.Core.List.{List, append-nil}
 use mathlib.Core.Path.{_≡_, refl, sym, ap, _∙_}
 use native.Mathlib.Nat.{le-refl}
@@ -9,11 +9,12 @@ use lib.Ieee.{Float, lt}
 use lib.Ieee.Scale.{finite}
 use lib.ListN.{length, drop-of-length-le}
 use Rattle.floats.specs.Lists.{copiedOf}
-use Rattle.loops.specs.Turns.{Try, go, stop}
+use Rattle.loops.proofs.Picks.{either}
 use Rattle.normal.specs.Normal.{productOf, diagMaxOf}
 use Rattle.rows.specs.Column.{laid, columnOf, laidIn}
 use Rattle.sketch.specs.declared.Active.{Active}
 use Rattle.sketch.specs.declared.Line.{Line}
+use Rattle.solver.specs.Reasons.{Reasoned, some, noPivot, notFinite}
 use Rattle.solver.specs.Sums.{norm2Of}
 use Rattle.rounds.proofs.Column.{column-is}
 use Rattle.rounds.specs.Inside.{trialMade, begunFit, takenFit, harderFit, triesAt, Shapes, Squares}
@@ -21,6 +22,8 @@ use Rattle.rounds.specs.Problem.{rowCount, valuesAt, stateOf, triedOf}
 use Rattle.rounds.specs.Solve.{Problem, State, Trial, Tried, judged, trialOf, tryOf, triesOf, orNext, better, taken, harder}
 use Rattle.rounds.specs.declared.Fit.{Fit}
 use Rattle.rounds.specs.declared.Attempted.{Attempted}
+use Rattle.rounds.specs.declared.Reason.{Reason}
+use Rattle.rounds.specs.declared.Reason.the-variants.{NoPivot, NotFinite, NotLess}
 use Rattle.rounds.proofs.Trials.{copied-whole}
 
 -- ---- the residuals
@@ -40,32 +43,35 @@ module _ (x r xn rn : List Float) (f : Fit) (cost : Float) (e : cost ≡ norm2Of
 
   pub judge-taken : (x₁ r₁ : List Float) (g : Fit) → (b && lt cost (f .cost)) ≡ true → length xn ≡ length x → length rn ≡ length r
       → x₁ ≡ copiedOf xn x → r₁ ≡ copiedOf rn r → g ≡ takenFit f cost
-      → triedOf x₁ r₁ (record { improved = true; fit = g }) ≡ judged (stateOf x r f) (go (trialMade xn rn))
+      → triedOf x₁ r₁ (record { improved = true; fit = g }) ≡ judged (stateOf x r f) (some (trialMade xn rn))
   judge-taken x₁ r₁ g h lx lr cx cr t = rw (test true h, copied-whole xn x x₁ (sym lx) cx, copied-whole rn r r₁ (sym lr) cr, t, e)
 
-  pub judge-left : (g : Fit) → (b && lt cost (f .cost)) ≡ false → g ≡ harderFit f
-      → triedOf x r (record { improved = false; fit = g }) ≡ judged (stateOf x r f) (go (trialMade xn rn))
+  pub judge-left : (g : Fit) → (b && lt cost (f .cost)) ≡ false → g ≡ harderFit NotLess f
+      → triedOf x r (record { improved = false; fit = g }) ≡ judged (stateOf x r f) (some (trialMade xn rn))
   judge-left g h t = rw (test false h, t)
 
 module _ (P : Problem) (j a : List Float) (m : Float) (x r : List Float) (f : Fit) where
-  pub no-try : (g : Fit) → stop ≡ trialOf P j a m (f .mu) x r → g ≡ harderFit f → triedOf x r (record { improved = false; fit = g }) ≡ tryOf P j a m (stateOf x r f)
+  pub no-try : (g : Fit) (w : Reason) → judged (stateOf x r f) (trialOf P j a m (f .mu) x r) ≡ record { improved = false; state = harder w (stateOf x r f) } → g ≡ harderFit w f
+      → triedOf x r (record { improved = false; fit = g }) ≡ tryOf P j a m (stateOf x r f)
   unfolding tryOf
-  no-try g s q = rw (← s, q)
+  no-try g w s q = rw (s, q)
 
-  pub a-try : (t : Trial) (x′ r′ : List Float) (g : Attempted) → go t ≡ trialOf P j a m (f .mu) x r → triedOf x′ r′ g ≡ judged (stateOf x r f) (go t)
+  pub a-try : (t : Trial) (x′ r′ : List Float) (g : Attempted) → some t ≡ trialOf P j a m (f .mu) x r → triedOf x′ r′ g ≡ judged (stateOf x r f) (some t)
       → triedOf x′ r′ g ≡ tryOf P j a m (stateOf x r f)
   unfolding tryOf
   a-try t x′ r′ g s q = q ∙ ap (judged (stateOf x r f)) s
 
 -- ---- the tries of a round
 
-pub counted : (s : State) (o : Try Trial) → judged s o .state .tries ≡ s .tries + 1
-counted s stop = refl
-counted s (go t) = pick (better s t)
-  where
-    pick : (b : Bool) → cond {A = Tried} b (record { improved = true; state = taken s t }) (record { improved = false; state = harder s }) .state .tries ≡ s .tries + 1
-    pick true = refl
-    pick false = refl
+-- what holds of a try that is taken and of one that is not, for whatever reason, holds of every try
+pub of-try : (Q : Tried → Type 0) (s : State) → ((t : Trial) → Q (record { improved = true; state = taken s t })) → ((w : Reason) → Q (record { improved = false; state = harder w s }))
+    → (o : Reasoned Trial) → Q (judged s o)
+of-try Q s taking leaving (some t) = either Q (better s t) _ _ (taking t) (leaving NotLess)
+of-try Q s taking leaving (noPivot c) = leaving (NoPivot c)
+of-try Q s taking leaving notFinite = leaving NotFinite
+
+pub counted : (s : State) (o : Reasoned Trial) → judged s o .state .tries ≡ s .tries + 1
+counted s = of-try (λ t. t .state .tries ≡ s .tries + 1) s (λ t. refl) (λ w. refl)
 
 module _ (P : Problem) (j a : List Float) (m : Float) where
   pub one-more : (s : State) (x′ r′ : List Float) (t : Attempted) → triedOf x′ r′ t ≡ tryOf P j a m s → t .fit .tries ≡ s .tries + 1

@@ -14,39 +14,41 @@ use Rattle.sketch.specs.declared.Active.{Active}
 use Rattle.sketch.specs.declared.Line.{Line}
 use Rattle.solver.specs.Sums.{norm2Of}
 use Rattle.solver.specs.declared.Elimination.{Elimination}
-use Rattle.solver.specs.declared.Elimination.the-variants.{Some, None, TooMany, TooShort}
 use Rattle.rounds.specs.Problem.{rowCount, valuesAt}
 use Rattle.rounds.specs.Solve.{Problem, State, Trial, Tried, Outcome, converged, failed, maxTries, triesOf}
 use Rattle.rounds.specs.declared.Attempted.{Attempted}
 use Rattle.rounds.specs.declared.Ended.{Ended}
 use Rattle.rounds.specs.declared.Fit.{Fit}
+use Rattle.rounds.specs.declared.Reason.{Reason}
+use Rattle.rounds.specs.declared.Reason.the-variants.{NothingFree, NoPivot, NotFinite, NotLess, Spent}
 use Rattle.rounds.specs.declared.Step.{Step}
 
 -- ---- the steps of `Fit`, each a step of the state that it is part of
 
 abbrev pub startedFit : Float → Fit
-startedFit cost = record { cost = cost; mu = 1e-10; polish = 3; iterations = 0; tries = 0 }
+startedFit cost = record { cost = cost; mu = 1e-10; polish = 3; iterations = 0; tries = 0; why = NothingFree }
 
 abbrev pub begunFit : Fit → Fit
-begunFit f = record { cost = f .cost; mu = f .mu; polish = f .polish; iterations = f .iterations + 1; tries = f .tries }
+begunFit f = record { cost = f .cost; mu = f .mu; polish = f .polish; iterations = f .iterations + 1; tries = f .tries; why = f .why }
 
 abbrev pub takenFit : Fit → Float → Fit
-takenFit f cost = record { cost = cost; mu = maxOf (f .mu ⊗ tenth) 1e-15; polish = f .polish; iterations = f .iterations; tries = f .tries + 1 }
+takenFit f cost = record { cost = cost; mu = maxOf (f .mu ⊗ tenth) 1e-15; polish = f .polish; iterations = f .iterations; tries = f .tries + 1; why = Spent }
 
-abbrev pub harderFit : Fit → Fit
-harderFit f = record { cost = f .cost; mu = f .mu ⊗ ten; polish = f .polish; iterations = f .iterations; tries = f .tries + 1 }
+abbrev pub harderFit : Reason → Fit → Fit
+harderFit w f = record { cost = f .cost; mu = f .mu ⊗ ten; polish = f .polish; iterations = f .iterations; tries = f .tries + 1; why = w }
 
 abbrev pub polishedFit : Fit → Fit
-polishedFit f = record { cost = f .cost; mu = f .mu; polish = f .polish - 1; iterations = f .iterations; tries = f .tries }
+polishedFit f = record { cost = f .cost; mu = f .mu; polish = f .polish - 1; iterations = f .iterations; tries = f .tries; why = f .why }
 
 -- ---- an attempt
 
--- what an elimination's answer is to an attempt
-abbrev pub isSolved : Elimination → Bool
-isSolved Some = true
-isSolved None = false
-isSolved TooMany = false
-isSolved TooShort = false
+-- why a try came to nothing, by its elimination: with an answer only the cost is left to say; its shape is the fit's own, so it is not refused
+abbrev pub lackOf : Elimination → Reason
+lackOf Elimination.Some = NotLess
+lackOf (Elimination.NoPivot c) = NoPivot c
+lackOf Elimination.NotFinite = NotFinite
+lackOf Elimination.TooMany = NotFinite
+lackOf Elimination.TooShort = NotFinite
 
 -- the trial whose coordinates and residuals lie in two slices
 abbrev pub trialMade : List Float → List Float → Trial
@@ -109,4 +111,4 @@ stepOf w t = stepBy w (t .improved) (eqb (t .fit .polish) 0) (t .fit)
 
 -- where a fit has ended, with its coordinates in a slice
 abbrev pub endedOf : List Float → Ended → Outcome
-endedOf x e = cond (e .converged) (converged x (e .fit .iterations) (e .fit .tries)) (failed (e .fit .iterations) (e .fit .tries))
+endedOf x e = cond (e .converged) (converged x (e .fit .iterations) (e .fit .tries)) (failed (e .fit .why) (e .fit .iterations) (e .fit .tries))

@@ -2,4 +2,5 @@ pub mod Solve
 pub mod Holds
 pub mod Problem
 pub mod Inside
+pub mod Reasons
 pub mod Promise

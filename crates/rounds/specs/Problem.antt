@@ -52,6 +52,7 @@ stateOf x r f = record {
   polish = f .polish;
   iterations = f .iterations;
   tries = f .tries;
+  why = f .why;
 }
 
 abbrev pub triedOf : List Float → List Float → Attempted → Tried

@@ -27,10 +27,10 @@ zeroed k a = replicate k zero⁺ ++ drop k a
 abbrev pub saying : FitEnding → ℕ → ℕ → Solved
 saying e i t = record { ending = e; iterations = i; tries = t }
 
--- what a fit's outcome is to the caller: document 01's "converged" with its counts, or a failure with its counts
+-- what a fit's outcome is to the caller: document 01's "converged" with its counts, or a failure with its reason and its counts
 abbrev pub answeredBy : Outcome → Solved
 answeredBy (converged x i t) = saying Converged i t
-answeredBy (failed i t) = saying Failed i t
+answeredBy (failed w i t) = saying (Failed w) i t
 
 -- what each case of the answer says in document 01's terms, with the coordinates as they are afterwards: these, the iterations and
 -- the tries of a fit that converged, or 01's number
@@ -39,27 +39,27 @@ meaningOf x′ s = by (s .ending)
   where
     by : FitEnding → Meaning (List Float × ℕ × ℕ)
     by Converged = values (x′, s .iterations, s .tries)
-    by Failed = refused notConverged
+    by (Failed w) = refused notConverged
     by TooMany = refused number.tooMany
     by TooShort = refused number.tooShort
 
 abbrev pub meant : Outcome → Meaning (List Float × ℕ × ℕ)
 meant (converged x i t) = values (x, i, t)
-meant (failed i t) = refused notConverged
+meant (failed w i t) = refused notConverged
 
 abbrev pub convergedBy : FitEnding → Bool
 convergedBy Converged = true
-convergedBy Failed = false
+convergedBy (Failed w) = false
 convergedBy TooMany = false
 convergedBy TooShort = false
 
 -- only a fit that converged has coordinates
 abbrev pub coordinatesOf : List Float → Outcome → List Float
 coordinatesOf x (converged y i t) = y
-coordinatesOf x (failed i t) = x
+coordinatesOf x (failed w i t) = x
 
 abbrev pub answerOf : Ended → Solved
-answerOf e = cond (e .converged) (saying Converged (e .fit .iterations) (e .fit .tries)) (saying Failed (e .fit .iterations) (e .fit .tries))
+answerOf e = cond (e .converged) (saying Converged (e .fit .iterations) (e .fit .tries)) (saying (Failed (e .fit .why)) (e .fit .iterations) (e .fit .tries))
 
 module _ (es : List Active) (ls : List Line) (places columns chosen free : List ℕ) where
   abbrev pub outcomeOf : List Float → Outcome

@@ -1,5 +1,5 @@
--- solver.rs, `solve`: the damped fit, with its iterations and tries counted. Its two loops are recursions on the rounds and on
--- the tries that are left.
+-- solver.rs, `solve`: the damped fit, with its iterations and tries counted, and why it failed (document 02, K6). Its two loops are
+-- recursions on the rounds and on the tries that are left.
 use Prim.Native.Nat.{ℕ, zero, suc, _+_, _-_}
 use mathlib.Core.Bool.{Bool, true, false, cond, _&&_}
 use mathlib.Core.List.{List}
@@ -9,10 +9,11 @@ use lib.Ieee.Scale.{finite}
 use lib.ListN.{length}
 use Rattle.floats.specs.Magnitude.{maxOf}
 use Rattle.floats.specs.Ops.{_⊗_, ten, tenth, 1e-10, 1e-12, 1e-15}
-use Rattle.loops.specs.Turns.{Try, go, stop, after}
 use Rattle.normal.specs.Normal.{productOf, diagMaxOf, dampedOf, movedOf}
-use Rattle.solver.specs.Steps.{solutionOf}
+use Rattle.solver.specs.Reasons.{Reasoned, some, noPivot, notFinite, onSome, reasonedOf}
 use Rattle.solver.specs.Sums.{maxAbsOf, norm2Of}
+use Rattle.rounds.specs.declared.Reason.{Reason}
+use Rattle.rounds.specs.declared.Reason.the-variants.{NothingFree, NoPivot, NotFinite, NotLess, Spent}
 
 -- What the Rust's closure `f` knows of the residuals: their values at given coordinates, how many there are, and which
 -- coordinates are free. The dense Jacobian at given coordinates stands beside it.
@@ -21,7 +22,8 @@ pub record Problem : Type 0 where
   pub rows : ℕ
   pub free : List ℕ
 
--- where the fit stands: `x`, `r`, `cost`, `mu`, `polish`, and the rounds and tries begun
+-- where the fit stands: `x`, `r`, `cost`, `mu`, `polish`, the rounds and tries begun, and what is said where it fails here: that nothing is
+-- free before any try, then the last try's reason, and that the iterations are spent where that try was taken
 pub record State : Type 0 where
   pub x : List Float
   pub r : List Float
@@ -30,11 +32,12 @@ pub record State : Type 0 where
   pub polish : ℕ
   pub iterations : ℕ
   pub tries : ℕ
+  pub why : Reason
 
--- A fit that failed has no coordinates to hand out.
+-- A fit that failed has no coordinates to hand out, and says why. Behind these, its iterations and tries.
 pub data Outcome : Type 0 where
   converged : List Float → ℕ → ℕ → Outcome
-  failed : ℕ → ℕ → Outcome
+  failed : Reason → ℕ → ℕ → Outcome
 
 -- `MAX_ITER`, the tries of an iteration, `POLISH`
 abbrev pub maxIter : ℕ
@@ -70,11 +73,12 @@ taken s t = record {
   polish = s .polish;
   iterations = s .iterations;
   tries = s .tries + 1;
+  why = Spent;
 }
 
 -- the trial is not taken: mu *= 10.0
-abbrev pub harder : State → State
-harder s = record {
+abbrev pub harder : Reason → State → State
+harder w s = record {
   x = s .x;
   r = s .r;
   cost = s .cost;
@@ -82,6 +86,7 @@ harder s = record {
   polish = s .polish;
   iterations = s .iterations;
   tries = s .tries + 1;
+  why = w;
 }
 
 -- a try, or a round's tries: whether one was taken, and where that leaves the fit
@@ -89,9 +94,10 @@ pub record Tried : Type 0 where
   pub improved : Bool
   pub state : State
 
-abbrev pub judged : State → Try Trial → Tried
-judged s stop = record { improved = false; state = harder s }
-judged s (go t) = cond (better s t) (record { improved = true; state = taken s t }) (record { improved = false; state = harder s })
+abbrev pub judged : State → Reasoned Trial → Tried
+judged s (some t) = cond (better s t) (record { improved = true; state = taken s t }) (record { improved = false; state = harder NotLess s })
+judged s (noPivot c) = record { improved = false; state = harder (NoPivot c) s }
+judged s notFinite = record { improved = false; state = harder NotFinite s }
 
 -- `break` where a try was taken, else the next
 abbrev pub orNext : Bool → State → (State → Tried) → Tried
@@ -103,10 +109,10 @@ module _ (P : Problem) where
   trialAt xn = record { x = xn; r = P .values xn; cost = norm2Of (P .values xn) }
 
   -- the trial of a try, with the Jacobian j, the product a and the largest m on its diagonal
-  unfoldable pub trialOf : List Float → List Float → Float → Float → List Float → List Float → Try Trial
+  unfoldable pub trialOf : List Float → List Float → Float → Float → List Float → List Float → Reasoned Trial
   trialOf j a m mu x r =
-      after (solutionOf (P .rows) (dampedOf (P .rows) mu m a) r)
-      (λ y. go (trialAt (movedOf (P .rows) (length (P .free)) j y (P .free) x)))
+      onSome (reasonedOf (P .rows) (dampedOf (P .rows) mu m a) r)
+      (λ y. some (trialAt (movedOf (P .rows) (length (P .free)) j y (P .free) x)))
 
   unfoldable pub tryOf : List Float → List Float → Float → State → Tried
   tryOf j a m s = judged s (trialOf j a m (s .mu) (s .x) (s .r))
@@ -125,6 +131,7 @@ module _ (P : Problem) where
     polish = s .polish;
     iterations = s .iterations + 1;
     tries = s .tries;
+    why = s .why;
   }
 
   abbrev pub polished : State → State
@@ -136,6 +143,7 @@ module _ (P : Problem) where
     polish = s .polish - 1;
     iterations = s .iterations;
     tries = s .tries;
+    why = s .why;
   }
 
   abbrev pub done : State → Outcome
@@ -143,7 +151,7 @@ module _ (P : Problem) where
 
   -- after the last round the tolerance decides
   abbrev pub decided : State → Outcome
-  decided s = cond (within (s .r)) (done s) (failed (s .iterations) (s .tries))
+  decided s = cond (within (s .r)) (done s) (failed (s .why) (s .iterations) (s .tries))
 
   -- after a round: within the tolerance, whether a try was taken, whether the polishing steps are spent
   abbrev pub ended : Bool → Bool → Bool → State → (State → Outcome) → Outcome
@@ -162,6 +170,7 @@ module _ (P : Problem) where
     polish = polishSteps;
     iterations = 0;
     tries = 0;
+    why = NothingFree;
   }
 
   module _ (jacobian : List Float → List Float) where
@@ -181,7 +190,7 @@ module _ (P : Problem) where
     -- converged at the start, even with nothing free; else nothing free; else the rounds
     abbrev pub opened : Bool → Bool → List Float → Outcome
     opened true fixed x = converged x 0 0
-    opened false true x = failed 0 0
+    opened false true x = failed NothingFree 0 0
     opened false false x = roundsOf maxIter (startOf x)
 
     unfoldable pub solveOf : List Float → Outcome

@@ -2,26 +2,30 @@
 ghost use mathlib.Core.Path.{_≡_};
 ghost use Prim.Native.Nat.{_*_, _≤_, _<_};
 ghost use lib.ListN.{length, take};
-ghost use Rattle.loops.specs.Turns.{go, tried};
 ghost use Rattle.normal.specs.Normal.{dampedOf, movedOf};
-ghost use Rattle.solver.specs.Steps.{solutionOf};
-ghost use Rattle.rounds.specs.Inside.{isSolved, trialMade, Shapes, Trying};
+ghost use Rattle.solver.specs.Promise.{Finds};
+ghost use Rattle.solver.specs.Reasons.{some};
+ghost use Rattle.rounds.specs.Inside.{lackOf, trialMade, Shapes, Trying};
 ghost use Rattle.rounds.specs.Problem.{rowCount, valuesAt, stateOf, triedOf, problemOf};
 ghost use Rattle.rounds.specs.Solve.{judged, trialAt};
 use crate::Attempted;
 use crate::Fit;
+use crate::Reason;
 use sketch::Active;
 use sketch::Line;
 use solver::Elimination;
 
-fn is_solved(e: Elimination) -> bool
-    ensures { λ r. ⌜ r ≡ isSolved e ⌝ }
+// Why a try came to nothing, by its elimination: with an answer only the cost is left to say. A refusal does not occur, since the shape is the
+// fit's own.
+pub(crate) fn lack(e: Elimination) -> Reason
+    ensures { λ r. ⌜ r ≡ lackOf e ⌝ }
 {
     match e {
-        Elimination::Some => true,
-        Elimination::None => false,
-        Elimination::TooMany => false,
-        Elimination::TooShort => false,
+        Elimination::Some => Reason::NotLess,
+        Elimination::NoPivot(column) => Reason::NoPivot(column),
+        Elimination::NotFinite => Reason::NotFinite,
+        Elimination::TooMany => Reason::NotFinite,
+        Elimination::TooShort => Reason::NotFinite,
     }
 }
 
@@ -33,15 +37,15 @@ pub(crate) fn eliminated(
     y: &mut [f64],
     mu: f64,
     m: f64,
-) -> bool
+) -> Elimination
     requires { ⌜ (length (now r) ≤ 80) × (length (now r) * length (now r) ≤ length (now a)) × (length (now r) * length (now r) ≤ length (now w)) × (length (now y) ≡ length (now r)) ⌝ }
-    ensures { λ ok. ⌜ tried ok (now (y .exit))
-        ≡ solutionOf (length (now (r .entry))) (dampedOf (length (now (r .entry))) mu m (take (length (now (r .entry)) * length (now (r .entry))) (now (a .entry)))) (now (r .entry)) ⌝ }
+    ensures { λ e. ⌜ Finds (length (now (r .entry))) (dampedOf (length (now (r .entry))) mu m (take (length (now (r .entry)) * length (now (r .entry))) (now (a .entry))))
+        (now (r .entry)) (now (y .exit)) e ⌝ }
 {
     let rows = r.len();
     normal::damped(a, w, rows, mu, m);
     floats::copy(r, y);
-    is_solved(solver::solve_dense(w, y, rows))
+    solver::solve_dense(w, y, rows)
 }
 
 // The residuals at x go to r.
@@ -62,7 +66,7 @@ fn values_at(
 // A try is taken where its cost is finite and less; then its coordinates and residuals are the fit's.
 fn judge(x: &mut [f64], r: &mut [f64], xn: &[f64], rn: &[f64], fit: Fit) -> Attempted
     requires { ⌜ (length (now xn) ≡ length (now x)) × (length (now rn) ≡ length (now r)) × (fit .tries < 4096) ⌝ }
-    ensures { λ t. ⌜ triedOf (now (x .exit)) (now (r .exit)) t ≡ judged (stateOf (now (x .entry)) (now (r .entry)) fit) (go (trialMade (now (xn .entry)) (now (rn .entry)))) ⌝ }
+    ensures { λ t. ⌜ triedOf (now (x .exit)) (now (r .exit)) t ≡ judged (stateOf (now (x .entry)) (now (r .entry)) fit) (some (trialMade (now (xn .entry)) (now (rn .entry)))) ⌝ }
 {
     let cost = solver::norm2(rn);
     if floats::is_finite(cost) & (cost < fit.cost) {
@@ -75,7 +79,7 @@ fn judge(x: &mut [f64], r: &mut [f64], xn: &[f64], rn: &[f64], fit: Fit) -> Atte
     }
     Attempted {
         improved: false,
-        fit: fit.harder(),
+        fit: fit.harder(Reason::NotLess),
     }
 }
 
@@ -95,7 +99,7 @@ pub(crate) fn one_try(
 ) -> Attempted
     requires { ⌜ Shapes equations (now chosen) (now free) (now j) (now r) × Trying (now x) (now r) (now xn) (now rn) × (fit .tries < 4096) ⌝ }
     ensures { λ t. ⌜ triedOf (now (x .exit)) (now (r .exit)) t
-        ≡ judged (stateOf (now (x .entry)) (now (r .entry)) fit) (go (trialAt (problemOf equations lines (now (places .entry)) (now (chosen .entry)) (now (free .entry)) (rowCount equations (now (chosen .entry))))
+        ≡ judged (stateOf (now (x .entry)) (now (r .entry)) fit) (some (trialAt (problemOf equations lines (now (places .entry)) (now (chosen .entry)) (now (free .entry)) (rowCount equations (now (chosen .entry))))
         (movedOf (rowCount equations (now (chosen .entry))) (length (now (free .entry))) (now (j .entry)) (now (rn .entry)) (now (free .entry)) (now (x .entry))))) ⌝ }
 {
     floats::copy(x, xn);

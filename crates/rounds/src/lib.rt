@@ -1,5 +1,6 @@
 // The damped fit of chosen equations (solver.rs, `solve`): rounds of tries, each a step that is taken where it lowers the cost.
 mod attempt;
+mod codes;
 mod opening;
 mod round;
 mod state;
@@ -7,6 +8,8 @@ mod tries;
 
 ghost use mathlib.Core.Path.{_≡_};
 ghost use Rattle.rounds.specs.Promise.{convergedBy};
+pub use codes::code;
+pub use codes::named_column;
 use members::Coordinates;
 use members::Equations;
 pub use opening::solve;
@@ -24,13 +27,29 @@ pub struct Posed {
     pub free: Coordinates,
 }
 
-// Where the fit stands beside its coordinates and residuals: `cost`, `mu`, `polish`, and the rounds and tries begun.
+// Why a fit failed, in document 02's order.
+pub enum Reason {
+    // No coordinate is free.
+    NothingFree,
+    // Twelve tries are spent, and the last of them came to nothing since elimination found no pivot in this column, counted from 1, ..
+    NoPivot(usize),
+    // .. or a result of elimination was not finite, ..
+    NotFinite,
+    // .. or the cost was not finite or not less.
+    NotLess,
+    // The iterations are spent, and the last of them still took a try.
+    Spent,
+}
+
+// Where the fit stands beside its coordinates and residuals: `cost`, `mu`, `polish`, the rounds and tries begun, and what is said where it
+// fails here.
 pub struct Fit {
     pub cost: f64,
     pub mu: f64,
     pub polish: usize,
     pub iterations: usize,
     pub tries: usize,
+    pub why: Reason,
 }
 
 // What a try came to, or a round's tries: whether one was taken, and where the fit stands.
@@ -56,7 +75,7 @@ pub(crate) struct Ended {
 pub enum FitEnding {
     Converged,
     // No coordinates are handed out.
-    Failed,
+    Failed(Reason),
     // 3: more than 80 coordinates.
     TooMany,
     // 9: a work area shorter than 6,400, the most that 80 rows and 80 free coordinates take.
@@ -74,7 +93,7 @@ pub fn converged(ending: FitEnding) -> bool
 {
     match ending {
         FitEnding::Converged => true,
-        FitEnding::Failed => false,
+        FitEnding::Failed(_) => false,
         FitEnding::TooMany => false,
         FitEnding::TooShort => false,
     }

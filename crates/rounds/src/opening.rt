@@ -130,8 +130,9 @@ fn answer(e: Ended) -> Solved
             tries: fit.tries,
         };
     }
+    let why = fit.why;
     Solved {
-        ending: FitEnding::Failed,
+        ending: FitEnding::Failed(why),
         iterations: fit.iterations,
         tries: fit.tries,
     }

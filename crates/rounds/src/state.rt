@@ -3,6 +3,7 @@ ghost use mathlib.Core.Path.{_≡_};
 ghost use Prim.Native.Nat.{_<_};
 ghost use Rattle.rounds.specs.Inside.{startedFit, takenFit, harderFit, begunFit, polishedFit};
 use crate::Fit;
+use crate::Reason;
 
 impl Fit {
     // Iterations before giving up.
@@ -31,6 +32,7 @@ impl Fit {
             polish: Fit::POLISH,
             iterations: 0,
             tries: 0,
+            why: Reason::NothingFree,
         }
     }
 
@@ -39,12 +41,14 @@ impl Fit {
         requires { ⌜ self .iterations < 4096 ⌝ }
         ensures { λ f. ⌜ f ≡ begunFit self ⌝ }
     {
+        let why = self.why;
         Fit {
             cost: self.cost,
             mu: self.mu,
             polish: self.polish,
             iterations: self.iterations + 1,
             tries: self.tries,
+            why,
         }
     }
 
@@ -59,13 +63,14 @@ impl Fit {
             polish: self.polish,
             iterations: self.iterations,
             tries: self.tries + 1,
+            why: Reason::Spent,
         }
     }
 
-    // A try was not taken.
-    pub(crate) fn harder(self) -> Fit
+    // A try was not taken, for this reason.
+    pub(crate) fn harder(self, why: Reason) -> Fit
         requires { ⌜ self .tries < 4096 ⌝ }
-        ensures { λ f. ⌜ f ≡ harderFit self ⌝ }
+        ensures { λ f. ⌜ f ≡ harderFit why self ⌝ }
     {
         Fit {
             cost: self.cost,
@@ -73,6 +78,7 @@ impl Fit {
             polish: self.polish,
             iterations: self.iterations,
             tries: self.tries + 1,
+            why,
         }
     }
 
@@ -81,12 +87,14 @@ impl Fit {
         requires { ⌜ 0 < self .polish ⌝ }
         ensures { λ f. ⌜ f ≡ polishedFit self ⌝ }
     {
+        let why = self.why;
         Fit {
             cost: self.cost,
             mu: self.mu,
             polish: self.polish - 1,
             iterations: self.iterations,
             tries: self.tries,
+            why,
         }
     }
 }

@@ -6,6 +6,7 @@ ghost use Rattle.rounds.specs.Problem.{rowCount, problemOf, stateOf, tri
 use crate::Attempted;
 use crate::Fit;
 use crate::attempt::eliminated;
+use crate::attempt::lack;
 use crate::attempt::one_try;
 use normal::Largest;
 use sketch::Active;
@@ -47,8 +48,9 @@ pub(crate) fn all_tries(
     let m = largest(normal::diag_max(a, rows));
     let mut f = fit.begun();
     for _ in 0..Fit::MAX_TRIES {
-        if !eliminated(a, r, w, rn, f.mu, m) {
-            f = f.harder();
+        let e = eliminated(a, r, w, rn, f.mu, m);
+        if !solver::is_some(e) {
+            f = f.harder(lack(e));
             continue;
         }
         let t = one_try(equations, lines, chosen, places, free, j, x, r, xn, rn, f);

@@ -41,8 +41,8 @@ pub record Demands : Type 0 where
   -- them +0.0
   pub output : (b : Build) → HandsOutNothing b
   pub areas : (b : Build) → AreasAfter b
-  -- 7 names the lowest group that fails, with its own counts, and marks exactly the equations of it without which it converges; the reply
-  -- to a text prints them so, and the marked ones rising
+  -- 7 names the lowest group that fails, with its own counts and its own reason, which holds, and marks exactly the equations of it without
+  -- which it converges; the reply to a text prints them so, and the marked ones rising
   pub failing : (b : Build) (out p q r : ℕ) → FailureNamed b out p q r
   pub printed : FailuresPrinted
   pub suspects : (marks : List Bool) → SuspectsAre marks

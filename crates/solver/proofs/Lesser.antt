@@ -1,9 +1,9 @@
--- The lesser exchange comes to the definition's solution (specs/Lesser.antt): each step keeps that the two matrices agree at every place
+-- The lesser exchange comes to the definition's solution, or to none for its reason (specs/Lesser.antt): each step keeps that the two matrices agree at every place
 -- that is still read, since the exchange of the left part writes none of them. Assumes nothing.
-use Prim.Native.Nat.{ℕ, _+_, _*_, _≤_, _<_}
+use Prim.Native.Nat.{ℕ, zero, suc, _+_, _*_, _≤_, _<_}
 use mathlib.Core.List.{List}
 use mathlib.Core.Logic.{inl, inr}
-use mathlib.Core.Path.{_≡_, refl, sym, ap, ap₂, _∙_}
+use mathlib.Core.Path.{_≡_, refl, sym, ap, ap₂, subst, _∙_}
 use native.Mathlib.Nat.{mul-le-mul-right, le-refl}
 use native.Mathlib.Omega.{arith}
 use lib.Dec.{ltb, eqb}
@@ -13,15 +13,16 @@ use lib.Ieee.{Float, nan, eq, le}
 use Rattle.floats.specs.Lists.{swapAt}
 use Rattle.floats.specs.Magnitude.{absOf, magnitudeOf}
 use Rattle.floats.specs.Ops.{_⊖_, _⊗_, _⊘_, zero⁺, zero⁻, 1e-15}
-use Rattle.loops.specs.Turns.{go, stop, InStep, upTo}
-use Rattle.loops.proofs.Both.{upTo-both, upTo-same, tryTo-both, downTo-same, after-both}
+use Rattle.loops.specs.Turns.{Try, go, stop, InStep, upTo}
+use Rattle.loops.proofs.Both.{upTo-both, upTo-same, tryTo-both, downTo-same}
 use Rattle.loops.proofs.Cells.{cell-column}
 use Rattle.loops.proofs.Keeps.{upTo-keeps}
 use Rattle.loops.proofs.Parts.{set-both}
 use Rattle.loops.proofs.Picks.{either, either-both}
 use Rattle.loops.proofs.Turning.{upTo-split}
-use Rattle.solver.specs.Lesser.{partSwapped, lesserSwapped, lesserColumn, lesserEliminated, StillRead, ReadAlike, SysAlike, StepsAgree, SameSolution}
-use Rattle.solver.specs.Steps.{Sys, sys, at, scaleOf, largerRow, pivotOf, swapColumn, swapped, lessAt, lessRow, rowOf, belowOf, singular, columnOf, eliminatedOf, addTerm, sumOf, backAt, backOf, allFinite, solutionOf}
+use Rattle.solver.specs.Lesser.{partSwapped, lesserSwapped, lesserColumn, lesserEliminated, StillRead, ReadAlike, SysAlike, StepsAgree, SameElimination}
+use Rattle.solver.specs.Reasons.{Reasoned, some, noPivot, notFinite, onSome, orNoPivot, columnsFrom, ifFinite, reasonedOf}
+use Rattle.solver.specs.Steps.{Sys, sys, at, scaleOf, largerRow, pivotOf, swapColumn, swapped, lessAt, lessRow, rowOf, belowOf, singular, columnOf, addTerm, sumOf, backAt, backOf}
 
 module _ (n col : ℕ) where
   -- ---- a write to both
@@ -145,8 +146,48 @@ module _ (n : ℕ) where
   back-same (sys a b) (sys a′ b′) (g, e) =
       rw (← e) (downTo-same (backAt n a b) (backAt n a′ b) n (λ r y h. rw (sum-same r a a′ y g, g .same r r h (inr (le-refl r)))) (replicate n zero⁺))
 
-pub same-solution : SameSolution
-unfolding solutionOf eliminatedOf lesserEliminated
-same-solution n a b =
-    after-both (SysAlike n n) (λ x y. y ≡ x) refl (λ s. allFinite (backOf n s)) (λ s. allFinite (backOf n s)) (λ s t h. ap allFinite (sym (back-same n s t h)))
-    (eliminatedOf n (sys a b)) (lesserEliminated n (sys a b)) (steps-agree n n (scaleOf a) (sys a b) (le-refl n))
+-- ---- the two loops, and what they come to
+
+-- both went through to systems that agree, or both were stopped at one column
+abbrev Alike : ℕ → Reasoned Sys → Reasoned Sys → Type 0
+Alike n (some s) (some t) = SysAlike n n s t
+Alike n (some s) (noPivot d) = ⊥
+Alike n (some s) notFinite = ⊥
+Alike n (noPivot c) (some t) = ⊥
+Alike n (noPivot c) (noPivot d) = c ≡ d
+Alike n (noPivot c) notFinite = ⊥
+Alike n notFinite (some t) = ⊥
+Alike n notFinite (noPivot d) = ⊥
+Alike n notFinite notFinite = Unit {0}
+
+module _ (n : ℕ) (scale : Float) where
+  columns-agree : (k col : ℕ) (s t : Sys) → col + k ≡ n → SysAlike n col s t → Alike n (columnsFrom (columnOf n scale) k col s) (columnsFrom (lesserColumn n scale) k col t)
+  unfolding columnsFrom
+  columns-agree zero col s t e g = let h : col ≡ n = omega arith in subst (λ i. SysAlike n i s t) h g
+  columns-agree (suc k) col s t e g =
+      by (columnOf n scale col s) (lesserColumn n scale col t) (column-alike n col (omega arith) scale s t g) (λ u v. columns-agree k (col + 1) u v (omega arith))
+    where
+      by : (x y : Try Sys) → InStep (SysAlike n (col + 1)) x y
+          → ((u v : Sys) → SysAlike n (col + 1) u v → Alike n (columnsFrom (columnOf n scale) k (col + 1) u) (columnsFrom (lesserColumn n scale) k (col + 1) v))
+          → Alike n (orNoPivot x col (columnsFrom (columnOf n scale) k (col + 1))) (orNoPivot y col (columnsFrom (lesserColumn n scale) k (col + 1)))
+      by (go u) (go v) r rest = rest u v r
+      by (go u) stop r rest = absurd r
+      by stop (go v) r rest = absurd r
+      by stop stop r rest = refl
+
+  back-alike : (x y : Reasoned Sys) → Alike n x y → onSome y (λ s. ifFinite (backOf n s)) ≡ onSome x (λ s. ifFinite (backOf n s))
+  back-alike (some s) (some t) g = ap ifFinite (sym (back-same n s t g))
+  back-alike (some s) (noPivot d) g = absurd g
+  back-alike (some s) notFinite g = absurd g
+  back-alike (noPivot c) (some t) g = absurd g
+  back-alike (noPivot c) (noPivot d) g = ap noPivot (sym g)
+  back-alike (noPivot c) notFinite g = absurd g
+  back-alike notFinite (some t) g = absurd g
+  back-alike notFinite (noPivot d) g = absurd g
+  back-alike notFinite notFinite g = refl
+
+pub same-elimination : SameElimination
+unfolding reasonedOf lesserEliminated
+same-elimination n a b =
+    back-alike n (scaleOf a) (columnsFrom (columnOf n (scaleOf a)) n 0 (sys a b)) (lesserEliminated n (sys a b))
+    (columns-agree n (scaleOf a) n 0 (sys a b) (sys a b) (omega arith) (itself n (sys a b)))

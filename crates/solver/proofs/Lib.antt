@@ -1,3 +1,4 @@
 pub mod Largest
 pub mod Checking
+pub mod Reasons
 pub mod Lesser

@@ -1,6 +1,7 @@
 pub mod Sums
 pub mod Steps
+pub mod Reasons
 pub mod Lesser
-pub mod Candidate
 pub mod Promise
+pub mod Inside
 pub mod Examples

@@ -2,10 +2,8 @@
 ghost use mathlib.Core.Path.{_≡_};
 ghost use Prim.Native.Nat.{_*_};
 ghost use lib.ListN.{length};
-ghost use Rattle.loops.specs.Turns.{tried};
 ghost use Rattle.solver.specs.Sums.{largerAbs, maxAbsOf, norm2Of};
-ghost use Rattle.solver.specs.Steps.{solutionOf};
-ghost use Rattle.solver.specs.Promise.{Solves};
+ghost use Rattle.solver.specs.Promise.{Finds, Solves, isSome};
 
 mod back;
 mod below;
@@ -47,8 +45,10 @@ pub fn norm2(v: &[f64]) -> f64
 pub enum Elimination {
     // The right side's first n places hold the answer.
     Some,
-    // The matrix is singular, or the answer is not finite: the right side's first n places are +0.0.
-    None,
+    // There is none, and the right side's first n places are +0.0: this column, counted from 1, has no pivot, ..
+    NoPivot(usize),
+    // .. or every column has one and a result is not finite.
+    NotFinite,
     // 3: more than 80 rows.
     TooMany,
     // 9: the matrix or the right side is shorter than its shape.
@@ -70,23 +70,39 @@ pub fn solve_dense(a: &mut [f64], b: &mut [f64], n: usize) -> Elimination
         return Elimination::TooShort;
     }
     let nn = n * n;
-    let found = solve_square(&mut a[..nn], &mut b[..n], n);
+    let e = solve_square(&mut a[..nn], &mut b[..n], n);
     floats::clear(&mut a[..nn]);
-    if found {
-        return Elimination::Some;
+    if !is_some(e) {
+        floats::clear(&mut b[..n]);
     }
-    floats::clear(&mut b[..n]);
-    Elimination::None
+    e
 }
 
-// The same on slices of the very shape, which leaves the matrix as elimination left it.
-fn solve_square(a: &mut [f64], b: &mut [f64], n: usize) -> bool
-    requires { ⌜ (length (now a) ≡ n * n) × (length (now b) ≡ n) ⌝ }
-    ensures { λ r. ⌜ tried r (now (b .exit)) ≡ solutionOf n (now (a .entry)) (now (b .entry)) ⌝ }
+// Whether there is an answer.
+pub fn is_some(e: Elimination) -> bool
+    ensures { λ r. ⌜ r ≡ isSome e ⌝ }
 {
-    if !pivot::eliminate(a, b, n) {
-        return false;
+    match e {
+        Elimination::Some => true,
+        Elimination::NoPivot(_) => false,
+        Elimination::NotFinite => false,
+        Elimination::TooMany => false,
+        Elimination::TooShort => false,
+    }
+}
+
+// The same on slices of the very shape, which leaves the matrix as elimination left it, and the right side too where there is no answer.
+fn solve_square(a: &mut [f64], b: &mut [f64], n: usize) -> Elimination
+    requires { ⌜ (length (now a) ≡ n * n) × (length (now b) ≡ n) ⌝ }
+    ensures { λ r. ⌜ Finds n (now (a .entry)) (now (b .entry)) (now (b .exit)) r ⌝ }
+{
+    let column = pivot::eliminate(a, b, n);
+    if 0 < column {
+        return Elimination::NoPivot(column);
     }
     back::substitute(a, b, n);
-    back::all_finite(b)
+    if back::all_finite(b) {
+        return Elimination::Some;
+    }
+    Elimination::NotFinite
 }

@@ -5,7 +5,7 @@ ghost use mathlib.Core.Bool.{false};
 ghost use lib.Ieee.{isNan};
 ghost use lib.ListN.{length};
 ghost use Rattle.loops.specs.Turns.{tried};
-ghost use Rattle.solver.specs.Candidate.{Sized};
+ghost use Rattle.solver.specs.Inside.{Sized, columnsIn};
 ghost use Rattle.solver.specs.Lesser.{partSwapped, lesserSwapped, lesserColumn, lesserEliminated};
 ghost use Rattle.solver.specs.Steps.{sys, largerOf, scaleOf, largerRow, pivotOf};
 use crate::below;
@@ -103,16 +103,16 @@ fn column(a: &mut [f64], b: &mut [f64], n: usize, scale: f64, col: usize) -> boo
     true
 }
 
-// Brings the matrix to upper triangular form; false where it is singular.
-pub(crate) fn eliminate(a: &mut [f64], b: &mut [f64], n: usize) -> bool
+// Brings the matrix to upper triangular form: 0, or the column, counted from 1, that has no pivot.
+pub(crate) fn eliminate(a: &mut [f64], b: &mut [f64], n: usize) -> usize
     requires { ⌜ (n * n ≤ length (now a)) × (n ≤ length (now b)) ⌝ }
-    ensures { λ r. ⌜ tried r (sys (now (a .exit)) (now (b .exit))) ≡ lesserEliminated n (sys (now (a .entry)) (now (b .entry))) ⌝ }
+    ensures { λ r. ⌜ columnsIn r (sys (now (a .exit)) (now (b .exit))) ≡ lesserEliminated n (sys (now (a .entry)) (now (b .entry))) ⌝ }
 {
     let s = scale(a);
     for col in 0..n {
         if !column(a, b, n, s, col) {
-            return false;
+            return col + 1;
         }
     }
-    true
+    0
 }

@@ -3,7 +3,7 @@ pub mod harness {
     use super::*;
     use crate::counters;
     use crate::solver::harness::{Row, all, dense_rows};
-    use job::{Build, Equation, Field, Kind, State};
+    use job::{Build, Equation, Field, Kind, Reason, State};
 
     /// A build in the Rust's own terms, cut into its groups.
     pub struct Rig {
@@ -11,15 +11,17 @@ pub mod harness {
         groups: Vec<Group>,
     }
 
-    /// How one fit ended: the coordinates where it converged, and what the counters say (zero in
-    /// the copy without counters).
+    /// How one fit ended: the coordinates where it converged, and what the counters say, which in
+    /// the copy without counters is nothing.
     #[derive(Debug)]
     pub struct Run {
         pub x: Option<Vec<f64>>,
         pub iterations: usize,
         pub tries: usize,
-        /// The tries of the last iteration.
-        pub last: usize,
+        /// Why it failed, where it did: what was said last.
+        pub reason: Reason,
+        /// What each try of the last iteration said last.
+        pub round: Vec<Reason>,
     }
 
     impl Rig {
@@ -61,8 +63,8 @@ pub mod harness {
         fn fit_with(&self, group: usize, equations: &[usize]) -> Run {
             counters::reset();
             let x = self.equations.fit(&self.groups[group], equations);
-            let (iterations, tries, last) = counters::read();
-            Run { x, iterations, tries, last }
+            let (iterations, tries) = counters::read();
+            Run { x, iterations, tries, reason: counters::said(), round: counters::round() }
         }
 
         pub fn freedom(&self, group: usize, x: &[f64]) -> usize {

@@ -2,27 +2,42 @@
 pub use equations::harness::{Rig, Run, Sweep};
 pub use solver::harness as bare;
 
-/// What the second copy of the solver counts; the unmodified one never calls `iteration`,
-/// `attempt` or `exchange`.
+/// What the second copy of the solver counts and says; the unmodified one never calls `iteration`,
+/// `attempt`, `exchange` or `say`.
 pub mod counters {
-    use std::cell::Cell;
+    use std::cell::{Cell, RefCell};
+
+    use job::Reason;
 
     thread_local! {
         static ITERATIONS: Cell<usize> = const { Cell::new(0) };
         static TRIES: Cell<usize> = const { Cell::new(0) };
-        static LAST: Cell<usize> = const { Cell::new(0) };
+        static SAID: Cell<Reason> = const { Cell::new(Reason::NothingFree) };
+        /// What each try of the last iteration said last.
+        static ROUND: RefCell<Vec<Reason>> = const { RefCell::new(Vec::new()) };
         /// A bit for each column.
         static EXCHANGES: Cell<u128> = const { Cell::new(0) };
     }
 
     pub fn iteration() {
         ITERATIONS.set(ITERATIONS.get() + 1);
-        LAST.set(0);
+        ROUND.take();
     }
 
+    /// Every try says something after this, which takes the place of what was said before it.
     pub fn attempt() {
         TRIES.set(TRIES.get() + 1);
-        LAST.set(LAST.get() + 1);
+        ROUND.with_borrow_mut(|round| round.push(SAID.get()));
+    }
+
+    /// Why a fit fails, or an elimination has no answer, if nothing else is said.
+    pub fn say(reason: Reason) {
+        SAID.set(reason);
+        ROUND.with_borrow_mut(|round| {
+            if let Some(last) = round.last_mut() {
+                *last = reason;
+            }
+        });
     }
 
     /// Two rows trade places in a column.
@@ -33,13 +48,24 @@ pub mod counters {
     pub fn reset() {
         ITERATIONS.set(0);
         TRIES.set(0);
-        LAST.set(0);
+        SAID.set(Reason::NothingFree);
+        ROUND.take();
         EXCHANGES.set(0);
     }
 
-    /// Iterations and tries since the last reset, and the tries of the last iteration.
-    pub fn read() -> (usize, usize, usize) {
-        (ITERATIONS.get(), TRIES.get(), LAST.get())
+    /// Iterations and tries since the last reset.
+    pub fn read() -> (usize, usize) {
+        (ITERATIONS.get(), TRIES.get())
+    }
+
+    /// What was said last since the last reset; nothing free, if nothing was.
+    pub fn said() -> Reason {
+        SAID.get()
+    }
+
+    /// What each try of the last iteration said last.
+    pub fn round() -> Vec<Reason> {
+        ROUND.with_borrow(Vec::clone)
     }
 
     /// The columns in which rows traded places since the last reset, rising.

@@ -5,7 +5,7 @@ use std::io::BufRead;
 use std::process::ExitCode;
 
 use job::{Build, Call, State, pack};
-use rooms::{NO_GROUP, NONE, REFUSED, SOLVED, Sweep, Tally, one_nan};
+use rooms::{NO_GROUP, NO_PIVOT, NOT_FINITE, REFUSED, SOLVED, Sweep, Tally, one_nan};
 use sakiromuk::{AREA, Fitter};
 
 /// What the lent places of a `lent` call hold before it.
@@ -55,7 +55,8 @@ fn list(numbers: &[usize]) -> String {
 fn eliminate(n: usize, mut a: Vec<f64>, mut b: Vec<f64>) -> String {
     let first = match rooms::solve_dense(&mut a, &mut b, n) {
         SOLVED => "answer".to_string(),
-        NONE => "none".to_string(),
+        NOT_FINITE => "notfinite".to_string(),
+        answer @ NO_PIVOT.. => format!("nopivot={}", answer - NO_PIVOT),
         status => format!("status={status}"),
     };
     format!("{first}\n{}{}", lines(a), lines(b))

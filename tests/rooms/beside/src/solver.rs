@@ -7,12 +7,14 @@ use std::time::Instant;
 
 use chance::Rng;
 use counted::counters;
-use oracle::generate::{Exchange, exchanges};
+use job::Reason;
+use oracle::calls;
+use oracle::generate::{Named, named};
 use plain::bare;
-use rooms::{NONE, REFUSED, SOLVED, Tally, one_nan, same};
+use rooms::{NO_PIVOT, NOT_FINITE, REFUSED, SOLVED, Tally, one_nan, same};
 
-const TOO_MANY: u8 = job::TOO_MANY;
-const TOO_SHORT: u8 = job::TOO_SHORT;
+const TOO_MANY: usize = job::TOO_MANY as usize;
+const TOO_SHORT: usize = job::TOO_SHORT as usize;
 /// The kinds of tables, as `table` makes them.
 const KINDS: usize = 11;
 const ANY_BITS: usize = 7;
@@ -21,8 +23,8 @@ const TRADING: usize = 10;
 
 pub fn compare(count: u64, seed: u64) -> ExitCode {
     let (mut tally, mut nans) = (Tally::default(), 0);
-    for case in exchanges() {
-        tally.note(exchange(&case), || case.name.to_string());
+    for case in named() {
+        tally.note(shown(&case), || case.name.to_string());
     }
     for i in 0..count {
         let rng = &mut Rng::new(seed, i);
@@ -138,24 +140,34 @@ fn elimination(rng: &mut Rng, kind: usize, n: usize) -> bool {
     trades && eliminated(a, b, n)
 }
 
-/// The answer and every lent place.
+/// The answer, why there is none, and every lent place.
 fn eliminated(mut a: Vec<f64>, mut b: Vec<f64>, n: usize) -> bool {
     let (mut their_a, mut their_b) = (a.clone(), b.clone());
     let theirs = if a.len() < n * n || b.len() < n {
         TOO_SHORT
     } else {
-        let answer = bare::eliminate(a[..n * n].to_vec(), b[..n].to_vec(), n);
+        let answer = calls::eliminated(&a[..n * n], &b[..n], n);
         their_a[..n * n].fill(0.0);
         their_b[..n].copy_from_slice(answer.as_deref().unwrap_or(&vec![0.0; n]));
-        if answer.is_some() { SOLVED } else { NONE }
+        number(answer)
     };
     let ours = rooms::solve_dense(&mut a, &mut b, n);
     ours == theirs && same(&a, &their_a) && same(&b, &their_b)
 }
 
-/// An elimination that must trade rows in just the columns that are named.
-fn exchange(case: &Exchange) -> bool {
-    traded(&case.a, &case.b, case.n) == case.columns && eliminated(case.a.clone(), case.b.clone(), case.n)
+/// What the proved code is to answer where the Rust does so.
+fn number(answer: Result<Vec<f64>, Reason>) -> usize {
+    match answer {
+        Ok(_) => SOLVED,
+        Err(Reason::NoPivot(column)) => NO_PIVOT + column,
+        Err(Reason::NotFinite) => NOT_FINITE,
+        Err(other) => panic!("elimination has no answer since {other:?}"),
+    }
+}
+
+/// An elimination that must trade rows and end just as it names.
+fn shown(case: &Named) -> bool {
+    calls::shows(case) && eliminated(case.a.clone(), case.b.clone(), case.n)
 }
 
 /// The columns in which the Rust's elimination trades rows, counted from 0.
@@ -190,7 +202,7 @@ fn space(rng: &mut Rng, kind: usize, rows: usize, n: usize, nans: &mut usize) ->
     let nan = !refused && bare::nan_in_matrix(&m, rows, n);
     let (lent, mut their_work, mut their_out) = (out.clone(), work.clone(), out.clone());
     let theirs = if refused {
-        REFUSED + usize::from(TOO_SHORT)
+        REFUSED + TOO_SHORT
     } else {
         let (rank, basis) = bare::null_space(&bare::sparse(&m, rows, n), n);
         their_work[..rows * n].fill(0.0);
@@ -215,7 +227,7 @@ fn too_large(rng: &mut Rng) -> bool {
     let (m, mut work, mut out) = (tables(), tables(), tables());
     let (before_work, before_out) = (work.clone(), out.clone());
     let ours = rooms::null_space(&m, rows, n, &mut work, &mut out);
-    ours == REFUSED + usize::from(TOO_MANY) && same(&work, &before_work) && same(&out, &before_out)
+    ours == REFUSED + TOO_MANY && same(&work, &before_work) && same(&out, &before_out)
 }
 
 fn figures(rng: &mut Rng, kind: usize, n: usize) -> bool {

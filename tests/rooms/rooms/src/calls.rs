@@ -9,7 +9,7 @@ unsafe extern "C" {
     fn rooms_get(s: *const f64, len: usize, i: usize) -> f64;
     fn rooms_put(s: *mut f64, len: usize, i: usize, v: f64);
     fn rooms_sqrt(x: f64) -> f64;
-    fn rooms_solve_dense(a: *mut f64, a_len: usize, b: *mut f64, b_len: usize, n: usize) -> u8;
+    fn rooms_solve_dense(a: *mut f64, a_len: usize, b: *mut f64, b_len: usize, n: usize) -> usize;
     fn rooms_max_abs(v: *const f64, len: usize) -> f64;
     fn rooms_norm2(v: *const f64, len: usize) -> f64;
     fn rooms_null_space(m: *const f64, m_len: usize, rows: usize, n: usize, work: *mut f64, work_len: usize, out: *mut f64, out_len: usize) -> usize;
@@ -91,12 +91,13 @@ pub fn sqrt(x: f64) -> f64 {
     unsafe { rooms_sqrt(x) }
 }
 
-/// What elimination answers.
-pub const SOLVED: u8 = 0;
-pub const NONE: u8 = 255;
+/// What elimination answers: this, the number of a refusal, that a result is not finite, or this and the column, counted from 1, in which
+/// there is no pivot.
+pub const SOLVED: usize = 0;
+pub const NOT_FINITE: usize = 255;
+pub const NO_PIVOT: usize = 256;
 
-/// Solved, none, or the number of a refusal.
-pub fn solve_dense(a: &mut [f64], b: &mut [f64], n: usize) -> u8 {
+pub fn solve_dense(a: &mut [f64], b: &mut [f64], n: usize) -> usize {
     unsafe { rooms_solve_dense(a.as_mut_ptr(), a.len(), b.as_mut_ptr(), b.len(), n) }
 }
 

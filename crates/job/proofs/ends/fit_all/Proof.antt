@@ -7,13 +7,13 @@ use Rattle.job.proofs.ends.fit_all.Tie as tie
 returns : tie.Need-returns
 returns c =
     let f = c .before .before .before .before .before .before in
-    let i = f .before .before .before .before in
+    let i = f .before .before .before .before .before in
     let w = i .before .before .before .before .before .before .before in
     let n = w .before .before .before .before in
     let g = n .before in
     let s = g .before .before .before .before .before in
     ended-failing (s .args .b) (g .groups .result) (n .smaller .result) (w .all-groups .result) (g .groups .ensures) (n .smaller .ensures) (w .all-groups .ensures .0)
-    (f .failing .result) (s .args .out .now) (i .if1 .taken) (f .failing .ensures)
+    (f .failed .result) (s .args .out .now) (i .if1 .taken) (f .failed .ensures)
 
 returns-2 : tie.Need-returns-2
 returns-2 c =

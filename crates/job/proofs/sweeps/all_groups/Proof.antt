@@ -57,8 +57,8 @@ loop-again c =
 
 returns-2 : tie.Need-returns-2 Inv-loop μ-loop
 returns-2 c =
-    let a = c .before .before .before .before .before .before .args in
-    let l = c .before .loop in
+    let a = c .before .before .before .before .before .before .before .args in
+    let l = c .before .before .loop in
     (groups-done (a .b) (a .gr) (a .n) (l .g) (l .d) _ (l .inv .5) (search needs), omega arith)
 
 pub all-groups-spec : {M : Type 1} → statement M
@@ -77,6 +77,7 @@ all-groups-spec =
     (λ c. search needs)
     (λ c. search needs)
     loop-again
+    (λ c κs. search needs)
     (λ c. search needs)
     (λ c. search needs)
     (λ c. search needs)

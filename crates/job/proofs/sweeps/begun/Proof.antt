@@ -6,7 +6,7 @@ use Rattle.job.proofs.sweeps.begun.Tie as tie
 
 returns : tie.Need-returns
 unfolding begin
-returns c = rw (c .starts .ensures)
+returns c = rw (c .starts .ensures, c .before .blank-group .ensures)
 
 pub begun-spec : {M : Type 1} → statement M
-begun-spec = tie.close (tie.spec (λ c κs. search needs) returns)
+begun-spec = tie.close (tie.spec (λ c κs. search needs) (λ c κs. search needs) returns)

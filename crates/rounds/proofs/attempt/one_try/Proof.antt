@@ -1,7 +1,7 @@
 use mathlib.Core.Path.{ap, _∙_}
 use lib.ListN.{length}
 use borrow.Author.Needs.{needs}
-use Rattle.loops.specs.Turns.{go}
+use Rattle.solver.specs.Reasons.{some}
 use Rattle.rounds.specs.Problem.{rowCount, problemOf, stateOf}
 use Rattle.rounds.specs.Solve.{Problem, judged}
 use Rattle.rounds.proofs.Trials.{trial-made}
@@ -34,7 +34,7 @@ returns c =
     let k = d .before .before .before .before .before in
     let s = k .before .before .before .before .before .before .before .before .before .before .before in
     g .judge .ensures
-    ∙ ap (λ t. judged (stateOf (s .args .x .now) (s .args .r .now) (s .args .fit)) (go t))
+    ∙ ap (λ t. judged (stateOf (s .args .x .now) (s .args .r .now) (s .args .fit)) (some t))
     (trial-made (posed s) (s .args .j .now) (s .args .x .now) (s .args .rn .now) (s .args .xn .now) (k .copy .last .1 .0) (d .moved .last .1 .1 .1 .0) (v .values-at .last .1 .1 .1 .1 .1 .0)
     (length (s .args .r .now)) (d .moved .result) (s .pre .0 .counted) (s .pre .0 .few) (s .pre .0 .narrow) (s .pre .0 .jacobian-long) (s .pre .1 .values-long) (s .pre .1 .trial-long)
     (k .copy .ensures) (d .moved .ensures) (v .values-at .ensures))

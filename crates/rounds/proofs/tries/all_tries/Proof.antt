@@ -1,13 +1,14 @@
 use Prim.Native.Nat.{_+_, _-_, _*_, _≤_}
 use mathlib.Core.Bool.{false}
 use mathlib.Core.List.{List}
-use mathlib.Core.Path.{_≡_, refl, sym, _∙_}
+use mathlib.Core.Path.{_≡_, refl, sym, ap, _∙_}
 use native.Mathlib.Nat.{le-refl}
 use native.Mathlib.Omega.{arith}
 use lib.Ieee.{Float}
 use lib.ListN.{length}
 use borrow.Author.Needs.{needs}
-use Rattle.rounds.specs.Inside.{begunFit, triesAt}
+use borrow.Author.Tests.{not-true, not-false}
+use Rattle.rounds.specs.Inside.{begunFit, harderFit, triesAt}
 use Rattle.rounds.specs.Problem.{rowCount, problemOf, stateOf, triedOf}
 use Rattle.rounds.specs.Solve.{Problem, State, Tried, tryOf, triesOf}
 use Rattle.rounds.proofs.Around.{product-found, diagonal-found}
@@ -91,25 +92,25 @@ eliminated-requires c κs =
     )
 
 harder-requires : tie.Need-harder-requires Inv-loop μ-loop
-harder-requires c κs = let h = bound (c .before .before .before .before .before .before .before .before .before .before .before) in omega (arith, h)
+harder-requires c κs = let h = bound (c .before .before .before .before .before .before .before .before .before .before .before .before .before) in omega (arith, h)
 
 add-counter : tie.Need-add-counter Inv-loop μ-loop
-add-counter c = record { fits = omega (arith, c .before .before .before .before .before .before .before .before .before .before .before .loop-test .taken) }
+add-counter c = record { fits = omega (arith, c .before .before .before .before .before .before .before .before .before .before .before .before .before .loop-test .taken) }
 
 loop-less : tie.Need-loop-less Inv-loop μ-loop
-loop-less c = omega (arith, c .before .before .before .before .before .before .before .before .before .before .before .loop-test .taken)
+loop-less c = omega (arith, c .before .before .before .before .before .before .before .before .before .before .before .before .before .loop-test .taken)
 
 loop-again : tie.Need-loop-again Inv-loop μ-loop
 loop-again c =
-    let i = c .before in
-    let e = c .before .before .before .before .before .before in
-    let t = c .before .before .before .before .before .before .before .before .before .before .before in
-    let l = c .before .before .before .before .before .before .before .before .before .before .before .before in
-    let none = no-trial (posed l) (jacobian l) (product l) (l .loop .x) (l .loop .r) (e .eliminated .last .1 .1 .1 .0) (top l) (l .loop .f .mu) (e .eliminated .result) (length (l .loop .r)) (count l) (e .eliminated .ensures) (square l) (i .if1 .taken) in (
+    let i = c .before .before in
+    let e = c .before .before .before .before .before .before .before .before in
+    let t = c .before .before .before .before .before .before .before .before .before .before .before .before .before in
+    let l = c .before .before .before .before .before .before .before .before .before .before .before .before .before .before in
+    let none = no-trial (posed l) (jacobian l) (product l) (l .loop .x) (l .loop .r) (e .eliminated .last .1 .1 .1 .0) (top l) (l .loop .f .mu) (e .eliminated .result) (length (l .loop .r)) (count l) (e .eliminated .ensures) (square l) (stands l) (sym (i .before .is-some .ensures) ∙ not-true _ (i .if1 .taken)) in (
       omega (arith, t .loop-test .taken),
       rw (c .harder .ensures) (omega (arith, l .loop .inv .1)),
       tries-next (posed l) (jacobian l) (product l) (top l) (l .loop .counter) (stands l) (l .loop .x) (l .loop .r) (record { improved = false; fit = c .harder .result }) _ (t .loop-test .taken)
-          (no-try (posed l) (jacobian l) (product l) (top l) (l .loop .x) (l .loop .r) (l .loop .f) (c .harder .result) none (c .harder .ensures)) (l .loop .inv .2) refl,
+          (no-try (posed l) (jacobian l) (product l) (top l) (l .loop .x) (l .loop .r) (l .loop .f) (c .harder .result) _ none (c .harder .ensures ∙ ap (λ w. harderFit w (l .loop .f)) (c .before .lack .ensures))) (l .loop .inv .2) refl,
       l .loop .inv .3,
       l .loop .inv .4,
       e .eliminated .kept .1 .1 .0 ∙ l .loop .inv .5,
@@ -119,8 +120,8 @@ loop-again c =
 
 one-try-requires : tie.Need-one-try-requires Inv-loop μ-loop
 one-try-requires c κs =
-    let e = c .before .before .before .before .before .before .before .before .before in
-    let l = c .before .before .before .before .before .before .before .before .before .before .before .before .before .before .before in
+    let e = c .before .before .before .before .before .before .before .before .before .before in
+    let l = c .before .before .before .before .before .before .before .before .before .before .before .before .before .before .before .before in
     let s = began l in
     let h = bound l in (
       record {
@@ -140,7 +141,7 @@ one-try-requires c κs =
 -- the try that was made
 module _ (o : tie.After-one-try Inv-loop μ-loop) where
   abbrev turn : tie.At-loop Inv-loop μ-loop
-  turn = o .before .before .before .before .before .before .before .before .before .before .before .before .before .before .before .before
+  turn = o .before .before .before .before .before .before .before .before .before .before .before .before .before .before .before .before .before
 
   abbrev x-next : List Float
   x-next = o .one-try .last .1 .1 .1 .1 .1 .1 .0
@@ -150,9 +151,9 @@ module _ (o : tie.After-one-try Inv-loop μ-loop) where
 
   made : triedOf x-next r-next (o .one-try .result) ≡ tryOf (posed turn) (jacobian turn) (product turn) (top turn) (stands turn)
   made =
-      let e = o .before .before .before .before .before .before .before .before .before .before in
+      let e = o .before .before .before .before .before .before .before .before .before .before .before in
       let some = a-trial (posed turn) (jacobian turn) (product turn) (turn .loop .x) (turn .loop .r) (e .eliminated .last .1 .1 .1 .0) (top turn) (turn .loop .f .mu) (e .eliminated .result) (length (turn .loop .r)) (count turn)
-      (e .eliminated .ensures) (square turn) (o .before .before .before .before .before .if1 .left) in
+      (e .eliminated .ensures) (square turn) (sym (o .before .before .before .before .before .before .is-some .ensures) ∙ not-false _ (o .before .before .before .before .before .if1 .left)) in
       a-try (posed turn) (jacobian turn) (product turn) (top turn) (turn .loop .x) (turn .loop .r) (turn .loop .f) _ x-next r-next (o .one-try .result) some (o .one-try .ensures)
 
   x-kept : length x-next ≡ length (began turn .args .x .now)
@@ -161,14 +162,14 @@ module _ (o : tie.After-one-try Inv-loop μ-loop) where
   r-kept : length r-next ≡ length (began turn .args .r .now)
   r-kept = o .one-try .kept .1 .1 .1 .1 .1 .1 .1 .0 ∙ turn .loop .inv .4
 
-  w-kept : length (o .before .before .before .before .before .before .before .before .before .before .eliminated .last .1 .1 .0) ≡ length (began turn .args .w .now)
-  w-kept = o .before .before .before .before .before .before .before .before .before .before .eliminated .kept .1 .1 .0 ∙ turn .loop .inv .5
+  w-kept : length (o .before .before .before .before .before .before .before .before .before .before .before .eliminated .last .1 .1 .0) ≡ length (began turn .args .w .now)
+  w-kept = o .before .before .before .before .before .before .before .before .before .before .before .eliminated .kept .1 .1 .0 ∙ turn .loop .inv .5
 
   xn-kept : length (o .one-try .last .1 .1 .1 .1 .1 .1 .1 .1 .0) ≡ length (began turn .args .xn .now)
   xn-kept = o .one-try .kept .1 .1 .1 .1 .1 .1 .1 .1 .0 ∙ turn .loop .inv .6
 
   rn-kept : length (o .one-try .last .1 .1 .1 .1 .1 .1 .1 .1 .1 .0) ≡ length (began turn .args .rn .now)
-  rn-kept = o .one-try .kept .1 .1 .1 .1 .1 .1 .1 .1 .1 .0 ∙ o .before .before .before .before .before .before .before .before .before .before .eliminated .kept .1 .1 .1 .0 ∙ turn .loop .inv .7
+  rn-kept = o .one-try .kept .1 .1 .1 .1 .1 .1 .1 .1 .1 .0 ∙ o .before .before .before .before .before .before .before .before .before .before .before .eliminated .kept .1 .1 .1 .0 ∙ turn .loop .inv .7
 
 same-length : tie.Need-same-length Inv-loop μ-loop
 same-length c = x-kept (c .before .before .before .before .before .before .before .before .before)
@@ -177,7 +178,7 @@ same-length-2 : tie.Need-same-length-2 Inv-loop μ-loop
 same-length-2 c = r-kept (c .before .before .before .before .before .before .before .before .before)
 
 same-length-3 : tie.Need-same-length-3 Inv-loop μ-loop
-same-length-3 c = c .before .before .before .before .before .before .before .before .before .before .before .before .before .before .before .before .before .before .before .before .before .before .before .before .before .before .before .before .before .before .before .before .product .kept .1 .0
+same-length-3 c = c .before .before .before .before .before .before .before .before .before .before .before .before .before .before .before .before .before .before .before .before .before .before .before .before .before .before .before .before .before .before .before .before .before .product .kept .1 .0
 
 same-length-4 : tie.Need-same-length-4 Inv-loop μ-loop
 same-length-4 c = w-kept (c .before .before .before .before .before .before .before .before .before)
@@ -192,19 +193,19 @@ returns : tie.Need-returns Inv-loop μ-loop
 returns c =
     let o = c .before .before .before .before .before .before .before .before .before in
     let l = turn o in
-    whole l _ (tries-stop (posed l) (jacobian l) (product l) (top l) (l .loop .counter) (stands l) (x-next o) (r-next o) (o .one-try .result) _ (c .before .before .before .before .before .before .before .before .before .before .before .before .before .before .before .before .before .before .before .before .before .before .before .before .loop-test .taken) (made o) (l .loop .inv .2) (c .if2 .taken))
+    whole l _ (tries-stop (posed l) (jacobian l) (product l) (top l) (l .loop .counter) (stands l) (x-next o) (r-next o) (o .one-try .result) _ (c .before .before .before .before .before .before .before .before .before .before .before .before .before .before .before .before .before .before .before .before .before .before .before .before .before .loop-test .taken) (made o) (l .loop .inv .2) (c .if2 .taken))
 
 add-counter-2 : tie.Need-add-counter-2 Inv-loop μ-loop
-add-counter-2 c = record { fits = omega (arith, c .before .before .before .before .before .before .before .before .before .before .before .before .before .before .before .before .before .before .before .before .before .before .before .before .before .loop-test .taken) }
+add-counter-2 c = record { fits = omega (arith, c .before .before .before .before .before .before .before .before .before .before .before .before .before .before .before .before .before .before .before .before .before .before .before .before .before .before .loop-test .taken) }
 
 loop-less-2 : tie.Need-loop-less-2 Inv-loop μ-loop
-loop-less-2 c = omega (arith, c .before .before .before .before .before .before .before .before .before .before .before .before .before .before .before .before .before .before .before .before .before .before .before .before .before .loop-test .taken)
+loop-less-2 c = omega (arith, c .before .before .before .before .before .before .before .before .before .before .before .before .before .before .before .before .before .before .before .before .before .before .before .before .before .before .loop-test .taken)
 
 loop-again-2 : tie.Need-loop-again-2 Inv-loop μ-loop
 loop-again-2 c =
     let o = c .before .before .before .before .before .before .before .before .before .before in
     let l = turn o in
-    let t = c .before .before .before .before .before .before .before .before .before .before .before .before .before .before .before .before .before .before .before .before .before .before .before .before .before in
+    let t = c .before .before .before .before .before .before .before .before .before .before .before .before .before .before .before .before .before .before .before .before .before .before .before .before .before .before in
     let q = one-more (posed l) (jacobian l) (product l) (top l) (stands l) (x-next o) (r-next o) (o .one-try .result) (made o) in (
       omega (arith, t .loop-test .taken),
       omega (arith, q, l .loop .inv .1),
@@ -233,6 +234,8 @@ all-tries-spec =
     (λ c κs. search needs)
     loop-holds
     eliminated-requires
+    (λ c κs. search needs)
+    (λ c κs. search needs)
     harder-requires
     add-counter
     loop-less

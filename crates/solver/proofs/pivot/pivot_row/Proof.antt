@@ -4,7 +4,7 @@ use borrow.Author.Needs.{needs}
 use Rattle.loops.specs.Turns.{upTo}
 use Rattle.loops.proofs.Turning.{upTo-next, upTo-done}
 use Rattle.loops.proofs.Cells.{cells}
-use Rattle.solver.specs.Candidate.{Sized}
+use Rattle.solver.specs.Inside.{Sized}
 use Rattle.solver.specs.Steps.{largerRow, pivotOf}
 use Rattle.solver.proofs.pivot.pivot_row.Statement.{statement}
 use Rattle.solver.proofs.pivot.pivot_row.Tie as tie

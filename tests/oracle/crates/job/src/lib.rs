@@ -14,7 +14,7 @@ pub use call::{Call, read_call};
 pub use check::{check, rows};
 pub use kinds::{EQUATIONS, Kind, MEASURES, Slot};
 pub use reader::{read, read_form};
-pub use reply::{Answer, Failure, Fitted, Group, reply};
+pub use reply::{Answer, Failure, Fitted, Group, Reason, reply};
 pub use writer::write;
 
 pub const MAX_TEXT: usize = 16_384;

@@ -23,7 +23,40 @@ pub struct Failure {
     pub lowest: usize,
     pub iterations: usize,
     pub tries: usize,
+    pub reason: Reason,
     pub suspects: Vec<usize>,
+}
+
+/// Why a fit failed: nothing is free, the last try of a round without success, or the rounds are spent.
+#[derive(Clone, Copy, Debug, PartialEq, Eq, PartialOrd, Ord)]
+pub enum Reason {
+    NothingFree,
+    /// Elimination found no pivot in this column, counted from 1.
+    NoPivot(usize),
+    /// Elimination's result is not finite.
+    NotFinite,
+    /// The cost is not finite or not less.
+    NotLess,
+    /// Every round was begun, and the last one took a try.
+    Spent,
+}
+
+impl Reason {
+    /// The number that stands for it in a reply.
+    pub fn code(self) -> usize {
+        match self {
+            Self::NothingFree => 1,
+            Self::NoPivot(_) => 2,
+            Self::NotFinite => 3,
+            Self::NotLess => 4,
+            Self::Spent => 5,
+        }
+    }
+
+    /// The column without a pivot, and 0 with any other reason.
+    pub fn column(self) -> usize {
+        if let Self::NoPivot(column) = self { column } else { 0 }
+    }
 }
 
 pub enum Answer {
@@ -55,7 +88,7 @@ fn fitted(f: &Fitted) -> String {
 }
 
 fn failed(f: &Failure) -> String {
-    let mut text = format!("status=7\ng={},{},{}\n", f.lowest, f.iterations, f.tries);
+    let mut text = format!("status=7\ng={},{},{},{},{}\n", f.lowest, f.iterations, f.tries, f.reason.code(), f.reason.column());
     for s in &f.suspects {
         text += &format!("c={s}\n");
     }

@@ -33,7 +33,7 @@ pub fn checked_build(build: &Build) -> Checked {
     Checked { answer, nan_groups }
 }
 
-/// The answer of the unmodified sources alone, its counts left at zero.
+/// The answer of the unmodified sources alone, which count nothing and say no reason.
 pub fn unmodified(build: &Build) -> Answer {
     let rig = Rig::new(build);
     run(&rig, |group| rig.fit(group), |group| rig.suspects(group)).0
@@ -45,9 +45,9 @@ fn run(rig: &Rig, fit: impl Fn(usize) -> Run, suspects: impl Fn(usize) -> Vec<us
     let (mut groups, mut fitted, mut worst) = (Vec::new(), Vec::new(), 0.0f64);
     for group in 0..rig.groups() {
         let lowest = rig.points_of(group)[0];
-        let Run { x, iterations, tries, .. } = fit(group);
+        let Run { x, iterations, tries, reason, .. } = fit(group);
         let Some(x) = x else {
-            let failure = Failure { lowest, iterations, tries, suspects: suspects(group) };
+            let failure = Failure { lowest, iterations, tries, reason, suspects: suspects(group) };
             return (Answer::Failed(failure), Vec::new());
         };
         worst = worst.max(plain::bare::max_abs(&rig.residuals(group, &x)));
@@ -59,12 +59,13 @@ fn run(rig: &Rig, fit: impl Fn(usize) -> Run, suspects: impl Fn(usize) -> Vec<us
     (Answer::Fitted(Fitted { freedom, worst, groups, points, measures }), fitted)
 }
 
-/// One fit from both copies: the coordinates must agree in every bit; the counts are the second
-/// copy's.
+/// One fit from both copies: the coordinates must agree in every bit; the counts and the reason are
+/// the second copy's.
 fn agreed(plain: Run, counted: counted::Run) -> Run {
     let bits = |x: &Option<Vec<f64>>| x.as_ref().map(|x| x.iter().map(|v| v.to_bits()).collect::<Vec<_>>());
     assert_eq!(bits(&plain.x), bits(&counted.x), "the two copies of the solver differ");
-    Run { iterations: counted.iterations, tries: counted.tries, last: counted.last, ..plain }
+    let counted::Run { iterations, tries, reason, round, .. } = counted;
+    Run { x: plain.x, iterations, tries, reason, round }
 }
 
 /// The Rust's suspects, each of the fits behind them run in both copies.

@@ -2,9 +2,11 @@
 
 use std::fmt::Write;
 
-use job::{Build, Call, TOO_MANY, TOO_SHORT, hex};
+use counted::counters;
+use job::{Build, Call, Reason, TOO_MANY, TOO_SHORT, hex};
 
 use crate::answer::{self, Checked};
+use crate::generate::Named;
 
 const MAX_ELIMINATION: usize = 80;
 const MAX_MATRIX_ROWS: usize = 64;
@@ -22,8 +24,10 @@ pub fn answer(text: &[u8]) -> Result<String, String> {
         Call::Sqrt(v) => lines(v.iter().map(|v| v.sqrt())),
         Call::MaxAbs(v) => lines([plain::bare::max_abs(&v)]),
         Call::Norm2(v) => lines([plain::bare::norm2(&v)]),
-        Call::Eliminate(n, a, b) => eliminate(n, a, b, plain::bare::eliminate),
-        Call::EliminateZeroSum(n, a, b) => eliminate(n, a, b, zerosum::harness::eliminate),
+        Call::Eliminate(n, a, b) => eliminate(n, a, b, |a, b, n| eliminated(a, b, n).map_err(no_answer)),
+        Call::EliminateZeroSum(n, a, b) => {
+            eliminate(n, a, b, |a, b, n| zerosum::harness::eliminate(a.to_vec(), b.to_vec(), n).ok_or("none".to_string()))
+        }
         Call::NullSpace { rows, columns, matrix, out } => null_space(rows, columns, &matrix, out),
         Call::Level(build) => level(&build),
         Call::Groups(build) => groups(&build),
@@ -36,18 +40,46 @@ fn lines(values: impl IntoIterator<Item = f64>) -> String {
     values.into_iter().map(|v| hex(v) + "\n").collect()
 }
 
+/// The Rust's elimination in both copies, which must agree in every bit; where there is no answer,
+/// why, as the second copy says.
+pub fn eliminated(a: &[f64], b: &[f64], n: usize) -> Result<Vec<f64>, Reason> {
+    counters::reset();
+    let (plain, counted) = (plain::bare::eliminate(a.to_vec(), b.to_vec(), n), counted::bare::eliminate(a.to_vec(), b.to_vec(), n));
+    let bits = |y: &Option<Vec<f64>>| y.as_ref().map(|y| y.iter().map(|v| v.to_bits()).collect::<Vec<_>>());
+    assert_eq!(bits(&plain), bits(&counted), "the two copies of elimination differ");
+    plain.ok_or_else(counters::said)
+}
+
+/// Whether rows trade places and elimination ends as the case names.
+pub fn shows(case: &Named) -> bool {
+    let Named { n, a, b, .. } = case;
+    let ends = eliminated(&a[..n * n], &b[..*n], *n).map(|_| ());
+    ends == case.ends && counters::exchanges() == case.columns
+}
+
+fn no_answer(reason: Reason) -> String {
+    match reason {
+        Reason::NoPivot(column) => format!("nopivot={column}"),
+        Reason::NotFinite => "notfinite".to_string(),
+        other => panic!("elimination has no answer since {other:?}"),
+    }
+}
+
 /// Elimination, and what 01 leaves in the lent places: the matrix zeroed, the right side the
-/// answer or zeros, nothing else touched.
-fn eliminate(n: usize, mut a: Vec<f64>, mut b: Vec<f64>, call: fn(Vec<f64>, Vec<f64>, usize) -> Option<Vec<f64>>) -> String {
+/// answer or zeros, nothing else touched. `call` answers, or has the first line of the reply.
+fn eliminate(n: usize, mut a: Vec<f64>, mut b: Vec<f64>, call: impl Fn(&[f64], &[f64], usize) -> Result<Vec<f64>, String>) -> String {
     let first = if n > MAX_ELIMINATION {
         format!("status={TOO_MANY}")
     } else if a.len() < n * n || b.len() < n {
         format!("status={TOO_SHORT}")
     } else {
-        let y = call(a[..n * n].to_vec(), b[..n].to_vec(), n);
+        let y = call(&a[..n * n], &b[..n], n);
         a[..n * n].fill(0.0);
         b[..n].copy_from_slice(y.as_deref().unwrap_or(&vec![0.0; n]));
-        if y.is_some() { "answer" } else { "none" }.to_string()
+        match y {
+            Ok(_) => "answer".to_string(),
+            Err(line) => line,
+        }
     };
     format!("{first}\n{}{}", lines(a), lines(b))
 }

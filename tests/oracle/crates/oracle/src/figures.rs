@@ -1,21 +1,19 @@
-//! What a set of jobs or calls holds. Of jobs, tables by class, status, kind, iterations and ending;
-//! it fails unless over half of the sound ones converge after real iterations with every kind among
-//! them. Of calls, a table by class and sort of reply.
+//! What a set of jobs or calls holds. Of jobs, tables by class, status, kind, iterations, ending and
+//! reason; it fails unless over half of the sound ones converge after real iterations with every kind
+//! among them. Of calls, a table by class and sort of reply.
 
-use std::collections::BTreeMap;
+use std::collections::{BTreeMap, BTreeSet};
 use std::error::Error;
 use std::io::{BufRead, Write};
 
 use counted::{Rig, Run};
-use job::{Build, EQUATIONS, Kind, Status, pack};
+use job::{Build, EQUATIONS, Kind, Reason, Status, pack};
 
 use crate::{calls, generate};
 
 const FITTED: Status = 0;
 const FAILED: Status = 7;
 const STATUSES: [Status; 8] = [0, 1, 2, 3, 4, 5, 6, 7];
-/// As many damping tries as a round has.
-const TRIES: usize = 12;
 /// As many rounds as a fit has.
 const ROUNDS: usize = 200;
 
@@ -34,16 +32,32 @@ pub enum Ending {
     SpentFailed,
 }
 
+/// What was said last tells: nothing where there was no round, and `Spent` where the last round took a try.
 pub fn ending(run: &Run) -> Ending {
-    match (run.x.is_some(), run.iterations) {
-        (true, 0) => Ending::AtStart,
-        (false, 0) => Ending::NothingFree,
-        (true, _) if run.last == TRIES => Ending::AtRest,
-        (false, _) if run.last == TRIES => Ending::Stuck,
-        (true, ROUNDS) => Ending::SpentConverged,
-        (true, _) => Ending::Polished,
-        (false, _) => Ending::SpentFailed,
+    match (run.x.is_some(), run.reason) {
+        (true, Reason::NothingFree) => Ending::AtStart,
+        (false, Reason::NothingFree) => Ending::NothingFree,
+        (true, Reason::Spent) if run.iterations == ROUNDS => Ending::SpentConverged,
+        (true, Reason::Spent) => Ending::Polished,
+        (false, Reason::Spent) => Ending::SpentFailed,
+        (true, _) => Ending::AtRest,
+        (false, _) => Ending::Stuck,
     }
+}
+
+/// The codes of the last round's tries in their order, each once for as many tries as have it one
+/// after another; a try that is taken has 5.
+pub fn last_codes(run: &Run) -> Vec<usize> {
+    let mut codes: Vec<usize> = run.round.iter().map(|reason| reason.code()).collect();
+    codes.dedup();
+    codes
+}
+
+/// Failed fits, and the columns in which some try of their last rounds found no pivot.
+#[derive(Default)]
+struct Failed {
+    fits: usize,
+    columns: BTreeSet<usize>,
 }
 
 /// A job as far as the figures go: its status and its groups' fits up to the first that fails.
@@ -89,6 +103,8 @@ struct Tally {
     kinds: BTreeMap<Kind, [usize; 2]>,
     rounds: BTreeMap<usize, [usize; 2]>,
     endings: BTreeMap<Ending, usize>,
+    /// By their reason and the codes of their last tries.
+    failed: BTreeMap<(Reason, Vec<usize>), Failed>,
 }
 
 /// Iterations by their order of size: each entry is the least of its range.
@@ -104,6 +120,11 @@ impl Tally {
             let range = RANGES.iter().copied().filter(|&least| least <= run.iterations).max().unwrap_or(0);
             self.rounds.entry(range).or_default()[usize::from(run.x.is_none())] += 1;
             *self.endings.entry(ending(run)).or_default() += 1;
+            if run.x.is_none() {
+                let failed = self.failed.entry((run.reason, last_codes(run))).or_default();
+                failed.fits += 1;
+                failed.columns.extend(run.round.iter().map(|reason| reason.column()).filter(|&column| column > 0));
+            }
         }
     }
 
@@ -144,6 +165,10 @@ impl Tally {
         for (ending, count) in &self.endings {
             writeln!(output, "| {ending:?} | {count} |")?;
         }
+        writeln!(output, "\n| code and column of a failed group | codes of its last tries | groups | columns of these tries |\n|---|---|---|---|")?;
+        for ((reason, codes), Failed { fits, columns }) in &self.failed {
+            writeln!(output, "| {}, {} | {} | {fits} | {} |", reason.code(), reason.column(), list(codes), list(columns))?;
+        }
         writeln!(output, "\n{} sound jobs, {} of them fitted after iterations", self.sound, self.worked)
     }
 
@@ -154,6 +179,10 @@ impl Tally {
         let missing = EQUATIONS.iter().find(|k| self.kinds.get(k).is_none_or(|[_, worked]| *worked == 0));
         missing.map_or(Ok(()), |kind| Err(format!("no {} in a group fitted after iterations", kind.name())))
     }
+}
+
+fn list<'a>(numbers: impl IntoIterator<Item = &'a usize>) -> String {
+    numbers.into_iter().map(usize::to_string).collect::<Vec<_>>().join(", ")
 }
 
 pub fn of_jobs(input: &mut impl BufRead, output: &mut impl Write) -> Result<(), Box<dyn Error>> {
@@ -189,11 +218,19 @@ pub fn of_calls(input: &mut impl BufRead, output: &mut impl Write) -> Result<(),
     Ok(())
 }
 
+/// Whether a fit has this ending, or fails with these as the last of its tries' codes (`2,4`).
+fn ends_in(run: &Run, wanted: &str) -> bool {
+    match wanted.split(',').map(str::parse).collect::<Result<Vec<usize>, _>>() {
+        Ok(codes) => run.x.is_none() && last_codes(run).ends_with(&codes),
+        Err(_) => format!("{:?}", ending(run)) == wanted,
+    }
+}
+
 /// The jobs of a seed in which some group's fit ends so: index, class and length of each.
 pub fn find(output: &mut impl Write, wanted: &str, seed: u64, count: u64) -> Result<(), Box<dyn Error>> {
     for index in 0..count {
         let made = generate::job(seed, index);
-        if look(&made.text).groups.iter().any(|(_, run)| format!("{:?}", ending(run)) == wanted) {
+        if look(&made.text).groups.iter().any(|(_, run)| ends_in(run, wanted)) {
             writeln!(output, "{index} {} {}", made.class, made.text.len())?;
         }
     }

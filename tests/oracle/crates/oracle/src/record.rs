@@ -13,7 +13,7 @@ use job::{Answer, Build, Contact, Equation, Field, Kind, MAX_MAGNITUDE, MIN_SIZE
 use crate::answer::{Checked, checked};
 use crate::calls;
 use crate::figures::{Seen, ending, look, sort};
-use crate::generate::{self, Exchange, Made};
+use crate::generate::{self, Made};
 
 /// Texts to choose from.
 const JOBS: u64 = 20_000;
@@ -80,7 +80,11 @@ fn chosen_calls(seed: u64) -> Result<Vec<(Vec<u8>, String)>, String> {
             chosen.push((made.text, reply));
         }
     }
-    for text in generate::exchanges().iter().map(Exchange::text) {
+    for case in generate::named() {
+        if !calls::shows(&case) {
+            return Err(format!("{} does not show what it names", case.name));
+        }
+        let text = case.text();
         let reply = calls::answer(&text)?;
         if fits(&text, &reply) {
             chosen.push((text, reply));

@@ -3,14 +3,14 @@
 mod bounds;
 mod calls;
 mod damage;
-mod exchanges;
 mod figure;
+mod named;
 mod sections;
 mod soups;
 mod strings;
 
 pub use calls::call;
-pub use exchanges::{Exchange, exchanges};
+pub use named::{Named, named};
 pub use strings::{damaged, string};
 
 use chance::Rng;
