@@ -11,7 +11,7 @@ extern "C" {
 #endif
 
 /* How many numbers a work area has at least. */
-#define SAKIROMUK_AREA 8192
+#define SAKIROMUK_AREA 6400
 /* How many bytes a reply has at most. */
 #define SAKIROMUK_REPLY 8192
 

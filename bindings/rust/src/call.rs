@@ -3,7 +3,7 @@
 use crate::{Job, Reply};
 
 /// How many numbers a work area has.
-pub const AREA: usize = 8192;
+pub const AREA: usize = 6400;
 /// How many bytes a reply has at most.
 pub const REPLY: usize = 8192;
 
@@ -30,7 +30,7 @@ pub struct Fitter {
 }
 
 impl Fitter {
-    /// A fitter, with the room that every job needs: 204,800 bytes on the heap.
+    /// A fitter, with the room that every job needs: 161,792 bytes on the heap.
     pub fn new() -> Self {
         Self { areas: [vec![0.0; AREA], vec![0.0; AREA], vec![0.0; AREA]], reply: vec![0; REPLY] }
     }

@@ -22,7 +22,7 @@ pub enum Status {
     TooManyRows = 6,
     /// 7: the equations of some group cannot all hold, or the fit did not get there.
     NotConverged = 7,
-    /// 9: a work area of fewer than 8,192 numbers.
+    /// 9: a work area of fewer than 6,400 numbers.
     TooShort = 9,
 }
 
@@ -62,7 +62,7 @@ impl fmt::Display for Status {
             Self::Missing => "a point or a line that the job does not have",
             Self::TooManyRows => "the equations have over 64 rows",
             Self::NotConverged => "the equations of a group do not all hold",
-            Self::TooShort => "a work area of fewer than 8,192 numbers",
+            Self::TooShort => "a work area of fewer than 6,400 numbers",
         })
     }
 }

@@ -276,8 +276,8 @@ fn the_call_itself_takes_slices_of_any_length() {
     assert_eq!(run_in(text.as_bytes(), &mut short, p, q, r), n);
     assert!(short.iter().all(|&b| b == 7));
     assert_eq!(run_in(text.as_bytes(), &mut [], p, q, r), n);
-    // An area that is too short.
-    let n = run_in(text.as_bytes(), &mut reply, p, &mut [], r);
+    // An area that is one number too short.
+    let n = run_in(text.as_bytes(), &mut reply, p, &mut [0.0; AREA - 1], r);
     assert_eq!(&reply[..n], b"status=9\n");
     assert_eq!(run_in(&[], &mut [], &mut [], &mut [], &mut []), b"status=2\n".len());
 }

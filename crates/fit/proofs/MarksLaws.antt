@@ -18,7 +18,7 @@ use Rattle.rounds.specs.Solve.{Outcome, converged, failed}
 use Rattle.sketch.specs.declared.Build.{Build}
 use Rattle.fit.specs.Fits.{outcomeIn, converges, suspect, mark}
 use Rattle.fit.specs.Inside.{Tests, Suspects}
-use Rattle.fit.specs.Promise.{fittedBy, short, wide, square, FitsChosen, withouts, jacobianLeft, productLeft, Marks}
+use Rattle.fit.specs.Promise.{fittedBy, short, wide, triangular, square, FitsChosen, withouts, jacobianLeft, productLeft, copyLeft, Marks}
 use Rattle.fit.specs.Frames.{startIn}
 use Rattle.fit.specs.declared.Fitted.{Fitted}
 use Rattle.fit.specs.declared.Frame.{Frame}
@@ -38,11 +38,11 @@ module _ (b : Build) (f : Frame) (k : ℕ) (p q r p′ q′ r′ : List Float) (
   came-to = (rw room at (h .answer)) ∙ ap (λ ks. fittedBy (length (startIn b f)) (outcomeIn b f ks)) rest
 
   pub tests : Tests b f k p q r p′ q′ r′ s
-  unfolding suspect jacobianLeft productLeft
+  unfolding suspect jacobianLeft productLeft copyLeft
   tests = record {
     answer = e ∙ ap (λ (u : Fitted). convergedBy (u .solved .ending)) came-to ∙ ended-so (length (startIn b f)) (outcomeIn b f (withouts b f k));
     jacobian = (rw room at (h .jacobian)) ∙ ap (λ ks. zeroed (wide b f ks) p) rest;
-    product = (rw room at (h .product)) ∙ ap (λ ks. zeroed (square b ks) q) rest;
+    product = (rw room at (h .product)) ∙ ap (λ ks. zeroed (triangular b ks) q) rest;
     copy = (rw room at (h .copy)) ∙ ap (λ ks. zeroed (square b ks) r) rest;
   }
 

@@ -17,6 +17,7 @@ use Rattle.members.specs.Scale as scale
 use Rattle.fit.proofs.Begun.{begun, fewer}
 use Rattle.members.specs.declared.Equations.{Equations}
 use Rattle.rounds.specs.Promise.{Solves, outcomeOf, answeredBy, coordinatesOf, zeroed, saying, tooMany}
+use Rattle.normal.specs.Half.{triangle}
 use Rattle.rounds.specs.Problem.{rowCount, valuesAt}
 use Rattle.rounds.specs.Solve.{Outcome, converged, failed}
 use Rattle.rounds.specs.declared.FitEnding.the-variants.{TooShort}
@@ -59,7 +60,7 @@ module _ (es : List Active) (ls : List Line) (places columns chosen free : List 
   area-p : p′ ≡ cond (short p q r) p (zeroed (rowCount es chosen * length free) p)
   area-p = e .jacobian ∙ rw none
 
-  area-q : q′ ≡ cond (short p q r) q (zeroed (rowCount es chosen * rowCount es chosen) q)
+  area-q : q′ ≡ cond (short p q r) q (zeroed (triangle (rowCount es chosen)) q)
   area-q = e .product ∙ rw none
 
   area-r : r′ ≡ cond (short p q r) r (zeroed (rowCount es chosen * rowCount es chosen) r)

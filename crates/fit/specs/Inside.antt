@@ -18,7 +18,7 @@ use Rattle.rounds.specs.declared.FitEnding.the-variants.{Converged, Failed, Too
 use Rattle.rounds.specs.declared.Solved.{Solved}
 use Rattle.sketch.specs.declared.Build.{Build}
 use Rattle.fit.specs.Fits.{gradientsOf, suspect, suspectsOf}
-use Rattle.fit.specs.Promise.{jacobianLeft, productLeft}
+use Rattle.fit.specs.Promise.{jacobianLeft, productLeft, copyLeft}
 use Rattle.fit.specs.declared.Degrees.{Degrees}
 use Rattle.fit.specs.declared.Fitted.{Fitted}
 use Rattle.fit.specs.declared.Frame.{Frame}
@@ -57,10 +57,10 @@ pub record Tests (b : Build) (f : Frame) (k : ℕ) (p q r p′ q′ r′ : List 
   pub answer : t ≡ suspect b f k
   pub jacobian : p′ ≡ jacobianLeft b f p k
   pub product : q′ ≡ productLeft b f q k
-  pub copy : r′ ≡ productLeft b f r k
+  pub copy : r′ ≡ copyLeft b f r k
 
 pub record Suspects (b : Build) (f : Frame) (p q r p′ q′ r′ : List Float) (t : List Bool) : Type 0 where
   pub answer : t ≡ suspectsOf b f
   pub jacobian : p′ ≡ fold (jacobianLeft b f) p (numbersOf (f .equations .0))
   pub product : q′ ≡ fold (productLeft b f) q (numbersOf (f .equations .0))
-  pub copy : r′ ≡ fold (productLeft b f) r (numbersOf (f .equations .0))
+  pub copy : r′ ≡ fold (copyLeft b f) r (numbersOf (f .equations .0))

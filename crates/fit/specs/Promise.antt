@@ -13,6 +13,7 @@ use Rattle.loops.specs.Turns.{fold}
 use Rattle.members.specs.Lists.{numbersOf, withoutOf}
 use Rattle.members.specs.Movable.{indicesOf}
 use Rattle.members.specs.declared.Equations.{Equations}
+use Rattle.normal.specs.Half.{triangle}
 use Rattle.rounds.specs.Problem.{rowCount}
 use Rattle.rounds.specs.Promise.{zeroed, saying}
 use Rattle.rounds.specs.Promise as rounds
@@ -30,9 +31,12 @@ use Rattle.fit.specs.declared.Marked.{Marked}
 abbrev pub short : List Float → List Float → List Float → Bool
 short p q r = ltb (length p) 6400 || ltb (length q) 6400 || ltb (length r) 6400
 
--- how many places of an area a fit takes: its Jacobian, and its product with its copy
+-- how many places of an area a fit takes: its Jacobian, the half of its product, and the product's working copy
 abbrev pub wide : Build → Frame → List ℕ → ℕ
 wide b f chosen = rowCount (b .equations) chosen * length (indicesOf (f .free))
+
+abbrev pub triangular : Build → List ℕ → ℕ
+triangular b chosen = triangle (rowCount (b .equations) chosen)
 
 abbrev pub square : Build → List ℕ → ℕ
 square b chosen = rowCount (b .equations) chosen * rowCount (b .equations) chosen
@@ -63,7 +67,7 @@ pub record FitsChosen (b : Build) (f : Frame) (chosen : Equations) (p q r p′ q
   pub answer : t ≡ cond (short p q r) refusal (fittedBy (length (startIn b f)) (outcomeIn b f (numbersOf (chosen .0))))
   pub meaning : fitMeaning t ≡ cond (short p q r) (refused tooShort) (fitMeant (length (startIn b f)) (outcomeIn b f (numbersOf (chosen .0))))
   pub jacobian : p′ ≡ cond (short p q r) p (zeroed (wide b f (numbersOf (chosen .0))) p)
-  pub product : q′ ≡ cond (short p q r) q (zeroed (square b (numbersOf (chosen .0))) q)
+  pub product : q′ ≡ cond (short p q r) q (zeroed (triangular b (numbersOf (chosen .0))) q)
   pub copy : r′ ≡ cond (short p q r) r (zeroed (square b (numbersOf (chosen .0))) r)
 
 -- ---- `freedom`
@@ -97,7 +101,10 @@ unfoldable pub jacobianLeft : Build → Frame → List Float → ℕ → List Fl
 jacobianLeft b f p k = zeroed (wide b f (withouts b f k)) p
 
 unfoldable pub productLeft : Build → Frame → List Float → ℕ → List Float
-productLeft b f q k = zeroed (square b (withouts b f k)) q
+productLeft b f q k = zeroed (triangular b (withouts b f k)) q
+
+unfoldable pub copyLeft : Build → Frame → List Float → ℕ → List Float
+copyLeft b f r k = zeroed (square b (withouts b f k)) r
 
 -- 9 where an area is too short, or the marks
 abbrev pub markedOf : Marked → Meaning (List Bool)
@@ -108,7 +115,7 @@ pub record Marks (b : Build) (f : Frame) (p q r p′ q′ r′ : List Float) (t 
   pub meaning : markedOf t ≡ cond (short p q r) (refused tooShort) (values (suspectsOf b f))
   pub jacobian : p′ ≡ cond (short p q r) p (fold (jacobianLeft b f) p (numbersOf (f .equations .0)))
   pub product : q′ ≡ cond (short p q r) q (fold (productLeft b f) q (numbersOf (f .equations .0)))
-  pub copy : r′ ≡ cond (short p q r) r (fold (productLeft b f) r (numbersOf (f .equations .0)))
+  pub copy : r′ ≡ cond (short p q r) r (fold (copyLeft b f) r (numbersOf (f .equations .0)))
 
 -- ---- no second answer, and no other content of a lent place, meets a promise
 

@@ -8,7 +8,7 @@ use Rattle.run.specs.Promise.{replyTo}
 
 -- a work area
 abbrev pub area : List Float
-area = replicate 8192 zero⁺
+area = replicate 6400 zero⁺
 
 unfoldable pub answered : List ℕ → List ℕ
 answered text = replyTo area area area text

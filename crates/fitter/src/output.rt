@@ -10,9 +10,9 @@ fn lay(text: &[u8], reply: &mut [u8; 8192]) -> usize
     ensures { λ n. ⌜ Counts n (now (reply .exit)) ⌝ }
     ensures { λ n. ⌜ take n (now (reply .exit)) ≡ answered (now (text .entry)) ⌝ }
 {
-    let mut p = [0.0; 8192];
-    let mut q = [0.0; 8192];
-    let mut r = [0.0; 8192];
+    let mut p = [0.0; 6400];
+    let mut q = [0.0; 6400];
+    let mut r = [0.0; 6400];
     run::run(text, reply, &mut p, &mut q, &mut r)
 }
 

@@ -1,12 +1,10 @@
 -- From what the calls at a job's end promise to its own promise. Assumes nothing.
-use Prim.Native.Nat.{ℕ, _≤_, min}
+use Prim.Native.Nat.{ℕ, min}
 use mathlib.Core.Bool.{true, false}
 use mathlib.Core.List.{List}
 use mathlib.Core.Path.{_≡_, ap, _∙_}
-use lib.Dec.{lit≤}
 use lib.Ieee.{Float}
-use lib.ListN.{length, take}
-use lib.Seq.{length-take-le}
+use lib.ListN.{length}
 use Rattle.answer.specs.Endings.{refusedOf, failedOf}
 use Rattle.answer.specs.declared.Answer.{Answer}
 use Rattle.answer.specs.declared.GroupFit.{GroupFit}
@@ -56,9 +54,5 @@ module _ (b : Build) (out p q r : List Float) where
   does-refuse e a v h = record { answer = rw v h; number = numbered a (rw v h); output = rw v; first = rw v; second = rw v; third = rw v }
 
   pub does-fit : (out′ p′ q′ r′ : List Float) (a : Answer) → verdict b out p q r ≡ Passes → a ≡ answerBy b (groupingOf b) (fitOf b)
-      → out′ ≡ outputBy b (groupingOf b) (fitOf b) out → p′ ≡ zeroed 8192 p → q′ ≡ zeroed 8192 q → r′ ≡ zeroed 8192 r → Does b out p q r out′ p′ q′ r′ a
+      → out′ ≡ outputBy b (groupingOf b) (fitOf b) out → p′ ≡ zeroed 6400 p → q′ ≡ zeroed 6400 q → r′ ≡ zeroed 6400 r → Does b out p q r out′ p′ q′ r′ a
   does-fit out′ p′ q′ r′ a v h o ep eq er = record { answer = rw v h; number = numbered a (rw v h); output = rw v o; first = rw v ep; second = rw v eq; third = rw v er }
-
--- a lent front of 8,192 places has the room that a fit takes
-pub long : (a : List Float) → 8192 ≤ length a → 6400 ≤ length (take 8192 a)
-long a h = rw (length-take-le 8192 a h) (lit≤ tt)

@@ -34,9 +34,9 @@ pub record Room (b : Build) (out p q r : ℕ) : Type 0 where
   pub points : b .«point_count» ≤ 40
   pub measures : b .«measure_count» ≤ 20
   pub output : 2 * b .«point_count» + b .«measure_count» ≤ out
-  pub first : 8192 ≤ p
-  pub second : 8192 ≤ q
-  pub third : 8192 ≤ r
+  pub first : 6400 ≤ p
+  pub second : 6400 ≤ q
+  pub third : 6400 ≤ r
 
 module _ (b : Build) (out p q r : ℕ) (h : verdictOf b out p q r ≡ Passes) where
   steps : (overBound b ≡ false) × (noRoom b out p q r ≡ false) × (checkOf b ≡ Passes)
@@ -46,12 +46,12 @@ module _ (b : Build) (out p q r : ℕ) (h : verdictOf b out p q r ≡ Passes) wh
   pub room : Room b out p q r
   room =
       let w = within b (steps .0) in
-      let n = none-of-four (ltb out (2 * b .«point_count» + b .«measure_count»)) (ltb p 8192) (ltb q 8192) (ltb r 8192) (steps .1) in
+      let n = none-of-four (ltb out (2 * b .«point_count» + b .«measure_count»)) (ltb p 6400) (ltb q 6400) (ltb r 6400) (steps .1) in
       record {
         points = w .0;
         measures = w .3;
         output = ltb-false out _ (n .0);
-        first = ltb-false p 8192 (n .1);
-        second = ltb-false q 8192 (n .2);
-        third = ltb-false r 8192 (n .3);
+        first = ltb-false p 6400 (n .1);
+        second = ltb-false q 6400 (n .2);
+        third = ltb-false r 6400 (n .3);
       }

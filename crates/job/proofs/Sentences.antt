@@ -47,17 +47,17 @@ module _ (b : Build) where
 
   -- by the rows in 01's order
   left : (a : List Float) (o n u m r f : Bool) → (firstRow o n u m r f ≡ 0) ⊎ (firstRow o n u m r f ≡ 7)
-      → areaAfter a (inOrder o n (ordered o u m r)) ≡ zeroed 8192 a
-  left a true n u m r f (inl h) = cc
-  left a true n u m r f (inr h) = cc
-  left a false true u m r f (inl h) = cc
-  left a false true u m r f (inr h) = cc
-  left a false false true m r f (inl h) = cc
-  left a false false true m r f (inr h) = cc
-  left a false false false true r f (inl h) = cc
-  left a false false false true r f (inr h) = cc
-  left a false false false false true f (inl h) = cc
-  left a false false false false true f (inr h) = cc
+      → areaAfter a (inOrder o n (ordered o u m r)) ≡ zeroed 6400 a
+  left a true n u m r f (inl h) = absurd (omega arith)
+  left a true n u m r f (inr h) = absurd (omega arith)
+  left a false true u m r f (inl h) = absurd (omega arith)
+  left a false true u m r f (inr h) = absurd (omega arith)
+  left a false false true m r f (inl h) = absurd (omega arith)
+  left a false false true m r f (inr h) = absurd (omega arith)
+  left a false false false true r f (inl h) = absurd (omega arith)
+  left a false false false true r f (inr h) = absurd (omega arith)
+  left a false false false false true f (inl h) = absurd (omega arith)
+  left a false false false false true f (inr h) = absurd (omega arith)
   left a false false false false false f h = refl
 
   kept : (a : List Float) (o n u m r f : Bool) → firstRow o n u m r f ≢ 0 → firstRow o n u m r f ≢ 7

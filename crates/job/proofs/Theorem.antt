@@ -206,7 +206,7 @@ module _ (b : Build) where
   too-many = four-of _ _ _ _ (less 40 (b .«point_count»)) (less 40 (b .«line_count»)) (less 40 (b .«equation_count»)) (less 20 (b .«measure_count»))
 
   too-short : (out p q r : ℕ) → noRoom b out p q r ≡ true ↔ TooShort b out p q r
-  too-short out p q r = four-of _ _ _ _ (less out (2 * b .«point_count» + b .«measure_count»)) (less p 8192) (less q 8192) (less r 8192)
+  too-short out p q r = four-of _ _ _ _ (less out (2 * b .«point_count» + b .«measure_count»)) (less p 6400) (less q 6400) (less r 6400)
 
   nothing-of : (out : List Float) (R : Result) → firstRow false false false false false (unfit R) ≢ 0 → outputBy b (groupingOf b) R out ≡ out
   nothing-of out (fits d) h = absurd (h refl)

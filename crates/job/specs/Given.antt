@@ -25,9 +25,10 @@ use Rattle.job.specs.Promise.{noRoom, numberIn, verdict, outputAfter}
 abbrev pub TooMany : Build → Type 0
 TooMany b = (40 < b .«point_count») ⊎ (40 < b .«line_count») ⊎ (40 < b .«equation_count») ⊎ (20 < b .«measure_count»)
 
--- 9: output shorter than two numbers per point plus one per measure, or any of three work areas shorter than 8,192
+-- 9: output shorter than two numbers per point plus one per measure, or any of three work areas shorter than 6,400, as
+-- document 02, K9, has it
 abbrev pub TooShort : Build → ℕ → ℕ → ℕ → ℕ → Type 0
-TooShort b out p q r = (out < 2 * b .«point_count» + b .«measure_count») ⊎ (p < 8192) ⊎ (q < 8192) ⊎ (r < 8192)
+TooShort b out p q r = (out < 2 * b .«point_count» + b .«measure_count») ⊎ (p < 6400) ⊎ (q < 6400) ⊎ (r < 6400)
 
 -- whether group g converges
 abbrev pub fitsAt : Build → ℕ → Bool

@@ -19,9 +19,10 @@ use Rattle.sketch.specs.declared.Checked.the-variants.{Passes, Ends}
 use Rattle.sketch.specs.declared.Ending.the-variants.{TooMany, TooShort}
 use Rattle.job.specs.Groups.{Result, fits, fails, fitOf, answerBy, outputBy}
 
--- 9: output shorter than two numbers per point plus one per measure, or any of three work areas shorter than 8,192
+-- 9: output shorter than two numbers per point plus one per measure, or any of three work areas shorter than 6,400, as
+-- document 02, K9, has it
 abbrev pub noRoom : Build → ℕ → ℕ → ℕ → ℕ → Bool
-noRoom b out p q r = ltb out (2 * b .«point_count» + b .«measure_count») || ltb p 8192 || ltb q 8192 || ltb r 8192
+noRoom b out p q r = ltb out (2 * b .«point_count» + b .«measure_count») || ltb p 6400 || ltb q 6400 || ltb r 6400
 
 abbrev pub roomOf : Bool → Checked
 roomOf true = Ends TooShort
@@ -69,7 +70,7 @@ outputAfter b out Passes = outputBy b (groupingOf b) (fitOf b) out
 
 abbrev pub areaAfter : List Float → Checked → List Float
 areaAfter p (Ends e) = p
-areaAfter p Passes = zeroed 8192 p
+areaAfter p Passes = zeroed 6400 p
 
 module _ (b : Build) (out p q r : List Float) where
   abbrev pub verdict : Checked

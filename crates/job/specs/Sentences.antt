@@ -77,9 +77,9 @@ pub record Names (b : Build) (a : Answer) : Type 0 where
 abbrev pub FailureNamed : Build → ℕ → ℕ → ℕ → ℕ → Type 0
 FailureNamed b out p q r = numberIn b out p q r ≡ 7 → Names b (answerAfter b (verdictOf b out p q r))
 
--- what a job leaves in an area that it is lent: +0.0 in the first 8,192 places and the rest as it was where it ends in 0 or 7, and
+-- what a job leaves in an area that it is lent: +0.0 in the first 6,400 places and the rest as it was where it ends in 0 or 7, and
 -- everything as it was where it refuses
 abbrev pub AreasAfter : Build → Type 0
 AreasAfter b = (out p q r area : List Float)
-    → ((numberIn b (length out) (length p) (length q) (length r) ≡ 0) ⊎ (numberIn b (length out) (length p) (length q) (length r) ≡ 7) → areaAfter area (verdict b out p q r) ≡ zeroed 8192 area)
+    → ((numberIn b (length out) (length p) (length q) (length r) ≡ 0) ⊎ (numberIn b (length out) (length p) (length q) (length r) ≡ 7) → areaAfter area (verdict b out p q r) ≡ zeroed 6400 area)
     × (numberIn b (length out) (length p) (length q) (length r) ≢ 0 → numberIn b (length out) (length p) (length q) (length r) ≢ 7 → areaAfter area (verdict b out p q r) ≡ area)

@@ -65,17 +65,17 @@ fn fit_all(b: Build, out: &mut [f64], p: &mut [f64], q: &mut [f64], r: &mut [f64
     fitted(b, gr, d, out)
 }
 
-// The fits take the first 8,192 places of each area, which are +0.0 afterwards.
+// The fits take the first 6,400 places of each area, which are +0.0 afterwards.
 fn in_areas(b: Build, out: &mut [f64], p: &mut [f64], q: &mut [f64], r: &mut [f64]) -> Answer
     requires { ⌜ (b .«point_count» ≤ 40) × (b .«measure_count» ≤ 20) × (2 * b .«point_count» + b .«measure_count» ≤ length (now out))
-        × (8192 ≤ length (now p)) × (8192 ≤ length (now q)) × (8192 ≤ length (now r)) ⌝ }
+        × (6400 ≤ length (now p)) × (6400 ≤ length (now q)) × (6400 ≤ length (now r)) ⌝ }
     ensures { λ a. ⌜ (a ≡ answerBy b (groupingOf b) (fitOf b)) × (now (out .exit) ≡ outputBy b (groupingOf b) (fitOf b) (now (out .entry)))
-        × (now (p .exit) ≡ zeroed 8192 (now (p .entry))) × (now (q .exit) ≡ zeroed 8192 (now (q .entry))) × (now (r .exit) ≡ zeroed 8192 (now (r .entry))) ⌝ }
+        × (now (p .exit) ≡ zeroed 6400 (now (p .entry))) × (now (q .exit) ≡ zeroed 6400 (now (q .entry))) × (now (r .exit) ≡ zeroed 6400 (now (r .entry))) ⌝ }
 {
-    let a = fit_all(b, out, &mut p[..8192], &mut q[..8192], &mut r[..8192]);
-    floats::clear(&mut p[..8192]);
-    floats::clear(&mut q[..8192]);
-    floats::clear(&mut r[..8192]);
+    let a = fit_all(b, out, &mut p[..6400], &mut q[..6400], &mut r[..6400]);
+    floats::clear(&mut p[..6400]);
+    floats::clear(&mut q[..6400]);
+    floats::clear(&mut r[..6400]);
     a
 }
 

@@ -13,7 +13,7 @@ fn room(b: Build, out: usize, p: usize, q: usize, r: usize) -> Checked
     requires { ⌜ overBound b ≡ false ⌝ }
     ensures { λ v. ⌜ v ≡ roomOf (noRoom b out p q r) ⌝ }
 {
-    if (out < 2 * b.point_count + b.measure_count) | (p < 8192) | (q < 8192) | (r < 8192) {
+    if (out < 2 * b.point_count + b.measure_count) | (p < 6400) | (q < 6400) | (r < 6400) {
         return Checked::Ends(Ending::TooShort);
     }
     Checked::Passes

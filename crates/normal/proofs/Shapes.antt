@@ -1,6 +1,6 @@
 -- What the calls' tests of their shapes say, and what each way out promises. Assumes nothing.
-use Prim.Native.Nat.{ℕ, _*_, _^_, _≤_, _<_}
-use mathlib.Core.Bool.{Bool, true, false, _&&_}
+use Prim.Native.Nat.{ℕ, _^_, _≤_, _<_}
+use mathlib.Core.Bool.{Bool, true, false, _&&_, _||_}
 use mathlib.Core.List.{List}
 use mathlib.Core.Path.{_≡_, refl, sym, subst, _∙_}
 use native.Mathlib.Nat.{lt-of-le-of-lt}
@@ -10,7 +10,7 @@ use lib.Ieee.{Float}
 use lib.ListN.{length}
 use mir.Syntax.{w64}
 use mir.Val.{Fits}
-use Rattle.normal.specs.Normal.{diagMaxOf}
+use Rattle.normal.specs.Half.{triangle, halfMaxOf}
 use Rattle.normal.specs.Promise.{Makes, Tops}
 use Rattle.normal.specs.declared.Largest.{Largest}
 use Rattle.normal.specs.declared.Made.{Made}
@@ -26,6 +26,10 @@ and-left false q h = h
 pub and-right : (p q : Bool) → p && q ≡ true → q ≡ true
 and-right true q h = h
 and-right false q h = absurd (subst T (sym h) tt)
+
+pub or-left : (p q : Bool) → p || q ≡ false → p ≡ false
+or-left false q h = refl
+or-left true q h = h
 
 -- a table that lies in a slice
 pub lies : (p : Bool) (m k : ℕ) → p ≡ leb m k → p ≡ true → m ≤ k
@@ -50,8 +54,8 @@ module _ (rows : ℕ) (a : List Float) where
   pub none-over : ltb 80 rows ≡ true → Tops rows a Largest.TooMany
   none-over h = record { answer = rw h; meaning = rw h }
 
-  pub none-short : ltb 80 rows ≡ false → leb (rows * rows) (length a) ≡ false → Tops rows a Largest.TooShort
+  pub none-short : ltb 80 rows ≡ false → leb (triangle rows) (length a) ≡ false → Tops rows a Largest.TooShort
   none-short h k = record { answer = rw (h, k); meaning = rw (h, k) }
 
-  pub top : (m : Float) → ltb 80 rows ≡ false → leb (rows * rows) (length a) ≡ true → m ≡ diagMaxOf rows a → Tops rows a (Largest.Of m)
+  pub top : (m : Float) → ltb 80 rows ≡ false → leb (triangle rows) (length a) ≡ true → m ≡ halfMaxOf rows a → Tops rows a (Largest.Of m)
   top m h k e = record { answer = rw (h, k, e); meaning = rw (h, k, e) }

@@ -6,10 +6,11 @@ use mathlib.Core.List.{List, _++_}
 use mathlib.Core.Path.{_≡_}
 use lib.Dec.{ltb, leb}
 use lib.Ieee.{Float}
-use lib.ListN.{length, take, drop}
+use lib.ListN.{length, drop}
 use Rattle.floats.specs.Only.{only-answer}
 use Rattle.loops.specs.Numbers.{Meaning, refused, values, tooMany, tooShort}
-use Rattle.normal.specs.Normal.{productOf, diagMaxOf, dampedOf, movedOf}
+use Rattle.normal.specs.Half.{triangle, halfOf, spreadOf, halfMaxOf}
+use Rattle.normal.specs.Normal.{productOf, dampedOf, movedOf}
 use Rattle.normal.specs.declared.Largest.{Largest}
 use Rattle.normal.specs.declared.Made.{Made}
 
@@ -37,15 +38,15 @@ pub record Makes (many room : Bool) (a done a′ : List Float) (r : Made) : Type
 pub only-one : {many room : Bool} {a done a₁ a₂ : List Float} {r₁ r₂ : Made} → Makes many room a done a₁ r₁ → Makes many room a done a₂ r₂ → (r₁ ≡ r₂) × (a₁ ≡ a₂)
 only-one p q = (only-answer (p .answer) (q .answer), only-answer (p .slice) (q .slice))
 
--- `product`: to the head of a
+-- `product`: its half, to the head of h
 abbrev pub Multiplies : ℕ → ℕ → List Float → List Float → List Float → Made → Type 0
-Multiplies rows nf j a =
-    Makes (ltb 80 rows || ltb 80 nf) (leb (rows * nf) (length j) && leb (rows * rows) (length a)) a (productOf rows nf j ++ drop (rows * rows) a)
+Multiplies rows nf j h =
+    Makes (ltb 80 rows || ltb 80 nf) (leb (rows * nf) (length j) && leb (triangle rows) (length h)) h (halfOf rows (productOf rows nf j) ++ drop (triangle rows) h)
 
--- `damped`: a copy of what is at the head of a, to the head of w
+-- `damped`: what is at the head of h is spread to the head of w and damped there
 abbrev pub Damps : ℕ → Float → Float → List Float → List Float → List Float → Made → Type 0
-Damps rows mu m a w =
-    Makes (ltb 80 rows) (leb (rows * rows) (length a) && leb (rows * rows) (length w)) w (dampedOf rows mu m (take (rows * rows) a) ++ drop (rows * rows) w)
+Damps rows mu m h w =
+    Makes (ltb 80 rows) (leb (triangle rows) (length h) && leb (rows * rows) (length w)) w (dampedOf rows mu m (spreadOf rows h) ++ drop (rows * rows) w)
 
 -- `moved`
 abbrev pub Moves : ℕ → ℕ → List Float → List Float → List ℕ → List Float → List Float → Made → Type 0
@@ -53,6 +54,6 @@ Moves rows nf j y free x =
     Makes (ltb 80 rows || ltb 80 nf) (leb (rows * nf) (length j) && leb rows (length y) && leb nf (length free)) x (movedOf rows nf j y free x)
 
 -- `diag_max`
-pub record Tops (rows : ℕ) (a : List Float) (r : Largest) : Type 0 where
-  pub answer : r ≡ checked (ltb 80 rows) (leb (rows * rows) (length a)) Largest.TooMany Largest.TooShort (Largest.Of (diagMaxOf rows a))
-  pub meaning : largestIs r ≡ checked (ltb 80 rows) (leb (rows * rows) (length a)) (refused tooMany) (refused tooShort) (values (diagMaxOf rows a))
+pub record Tops (rows : ℕ) (h : List Float) (r : Largest) : Type 0 where
+  pub answer : r ≡ checked (ltb 80 rows) (leb (triangle rows) (length h)) Largest.TooMany Largest.TooShort (Largest.Of (halfMaxOf rows h))
+  pub meaning : largestIs r ≡ checked (ltb 80 rows) (leb (triangle rows) (length h)) (refused tooMany) (refused tooShort) (values (halfMaxOf rows h))

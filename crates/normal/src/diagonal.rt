@@ -1,32 +1,35 @@
 // The diagonal of the product, and its damping.
 ghost use mathlib.Core.Path.{_≡_};
 ghost use Prim.Native.Nat.{_*_, _≤_};
-ghost use lib.ListN.{length, take};
-ghost use Rattle.normal.specs.Normal.{largestOf, dampedOf};
+ghost use lib.ListN.{length};
+ghost use Rattle.normal.specs.Half.{triangle, spreadOf, halfLargestOf};
+ghost use Rattle.normal.specs.Normal.{dampedOf};
 ghost use Rattle.normal.specs.Promise.{Damps, Tops};
 use crate::Largest;
 use crate::Made;
+use crate::half::triangle;
+use crate::spread::spread;
 
-fn largest(a: &[f64], rows: usize) -> f64
-    requires { ⌜ rows * rows ≤ length (now a) ⌝ }
-    ensures { λ r. ⌜ r ≡ largestOf rows (now (a .entry)) ⌝ }
+fn largest(h: &[f64], rows: usize) -> f64
+    requires { ⌜ (rows ≤ 80) × (triangle rows ≤ length (now h)) ⌝ }
+    ensures { λ r. ⌜ r ≡ halfLargestOf rows (now (h .entry)) ⌝ }
 {
     let mut m = 0.0;
     for i in 0..rows {
-        m = floats::max(m, a[i * rows + i]);
+        m = floats::max(m, h[triangle(i) + i]);
     }
     m
 }
 
-// The largest number on the diagonal, at least 1e-300.
-pub fn diag_max(a: &[f64], rows: usize) -> Largest
-    ensures { λ r. ⌜ Tops rows (now (a .entry)) r ⌝ }
+// The largest number on the diagonal of the matrix whose half h is, at least 1e-300.
+pub fn diag_max(h: &[f64], rows: usize) -> Largest
+    ensures { λ r. ⌜ Tops rows (now (h .entry)) r ⌝ }
 {
     if 80 < rows {
         return Largest::TooMany;
     }
-    if loops::holds(a.len(), rows, rows) {
-        return Largest::Of(floats::max(largest(a, rows), 1e-300));
+    if triangle(rows) <= h.len() {
+        return Largest::Of(floats::max(largest(h, rows), 1e-300));
     }
     Largest::TooShort
 }
@@ -40,25 +43,25 @@ fn add_on_diagonal(w: &mut [f64], rows: usize, mu: f64, m: f64)
     }
 }
 
-// A copy of the head of a with mu * m added on its diagonal, over the whole of w.
-fn whole_damped(a: &[f64], w: &mut [f64], rows: usize, mu: f64, m: f64)
-    requires { ⌜ (rows * rows ≤ length (now a)) × (length (now w) ≡ rows * rows) ⌝ }
-    ensures { λ _. ⌜ now (w .exit) ≡ dampedOf rows mu m (take (rows * rows) (now (a .entry))) ⌝ }
+// The matrix whose half h is with mu * m added on its diagonal, over the whole of w. The half itself is never damped.
+fn whole_damped(h: &[f64], w: &mut [f64], rows: usize, mu: f64, m: f64)
+    requires { ⌜ (rows ≤ 80) × (triangle rows ≤ length (now h)) × (length (now w) ≡ rows * rows) ⌝ }
+    ensures { λ _. ⌜ now (w .exit) ≡ dampedOf rows mu m (spreadOf rows (now (h .entry))) ⌝ }
 {
-    floats::copy(a, w);
+    spread(h, w, rows);
     add_on_diagonal(w, rows, mu, m);
 }
 
-// A copy of the product with mu * m added on its diagonal, at the head of w.
-pub fn damped(a: &[f64], w: &mut [f64], rows: usize, mu: f64, m: f64) -> Made
-    ensures { λ r. ⌜ Damps rows mu m (now (a .entry)) (now (w .entry)) (now (w .exit)) r ⌝ }
+// The matrix whose half h is with mu * m added on its diagonal, at the head of w.
+pub fn damped(h: &[f64], w: &mut [f64], rows: usize, mu: f64, m: f64) -> Made
+    ensures { λ r. ⌜ Damps rows mu m (now (h .entry)) (now (w .entry)) (now (w .exit)) r ⌝ }
 {
     if 80 < rows {
         return Made::TooMany;
     }
-    if loops::holds(a.len(), rows, rows) & loops::holds(w.len(), rows, rows) {
+    if (triangle(rows) <= h.len()) & loops::holds(w.len(), rows, rows) {
         let nn = rows * rows;
-        whole_damped(a, &mut w[..nn], rows, mu, m);
+        whole_damped(h, &mut w[..nn], rows, mu, m);
         return Made::Done;
     }
     Made::TooShort

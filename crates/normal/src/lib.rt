@@ -1,13 +1,15 @@
 // What a round of the fit makes of the Jacobian (solver.rs, `solve`): the product matrix, its damped copy, and the step.
-// The Jacobian is rows × nf and the product rows × rows, each at the head of a lent slice, row after row. Where a slice is
-// shorter than its shape, or there are too many rows or free coordinates, the call says so and nothing happens.
+// The Jacobian is rows × nf and the damped copy rows × rows, each at the head of a lent slice, row after row; of the product itself only the
+// lower half is kept, row after row, so that (i, k) with k ≤ i is at i(i + 1)/2 + k. Where a slice is shorter than its shape, or there are
+// too many rows or free coordinates, the call says so and nothing happens.
 mod diagonal;
-mod pairs;
+mod half;
+mod spread;
 mod step;
 
 pub use diagonal::damped;
 pub use diagonal::diag_max;
-pub use pairs::product;
+pub use half::product;
 pub use step::moved;
 
 // What a call came to. A refusal changes nothing that is lent.

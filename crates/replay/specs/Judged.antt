@@ -11,7 +11,7 @@ use Rattle.run.specs.Promise.{replyTo}
 
 -- a work area
 abbrev pub area : List Float
-area = replicate 8192 zero⁺
+area = replicate 6400 zero⁺
 
 -- the reply to a job's text
 unfoldable pub answered : List ℕ → List ℕ

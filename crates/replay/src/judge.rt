@@ -8,9 +8,9 @@ pub(crate) fn is_reply(text: &[u8], recorded: &[u8]) -> bool
 {
     // No reply is longer.
     let mut reply = [0u8; 8192];
-    let mut p = [0.0; 8192];
-    let mut q = [0.0; 8192];
-    let mut r = [0.0; 8192];
+    let mut p = [0.0; 6400];
+    let mut q = [0.0; 6400];
+    let mut r = [0.0; 6400];
     let n = run::run(text, &mut reply, &mut p, &mut q, &mut r);
     if n <= 8192 {
         check::same(&reply[..n], recorded)

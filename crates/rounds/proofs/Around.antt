@@ -1,14 +1,16 @@
 -- From what the calls of a round, and of the rounds, promise to the definition. Assumes nothing.
 use Prim.Native.Nat.{ℕ, zero, suc, _+_, _-_, _*_, _≤_, _<_}
 use mathlib.Core.Bool.{Bool, true, false, not, _||_}
-use mathlib.Core.List.{List, append-nil}
+use mathlib.Core.List.{List, _++_, append-nil}
 use mathlib.Core.Path.{_≡_, refl, sym, ap, _∙_}
 use native.Mathlib.Nat.{le-refl}
 use native.Mathlib.Omega.{arith}
 use borrow.Author.Tests.{le-leb, le-ltb}
 use lib.Dec.{eqb}
 use lib.Ieee.{Float}
-use lib.ListN.{length, drop-of-length-le}
+use lib.ListN.{length, drop, drop-of-length-le}
+use Rattle.normal.proofs.Halves.{same-numbers}
+use Rattle.normal.specs.Half.{triangle, halfOf, spreadOf, HalfHolds}
 use Rattle.normal.specs.Normal.{productOf, diagMaxOf}
 use Rattle.normal.specs.Promise.{Multiplies, Tops}
 use Rattle.normal.specs.declared.Largest.{Largest}
@@ -39,18 +41,23 @@ jacobian-found es ls places columns chosen nf n rows x j j′ few narrow c long 
     let full : length j ≤ rowCount es chosen * nf = rw l (le-refl _) in
     ap laidIn (e ∙ table-is es ls places columns chosen nf x j few narrow room) ∙ rw (drop-of-length-le j full, append-nil)
 
-pub product-found : (rows nf : ℕ) (j a a′ : List Float) (d : Made) → rows ≤ 80 → nf ≤ 80 → length j ≡ rows * nf → length a ≡ rows * rows → Multiplies rows nf j a a′ d
-    → a′ ≡ productOf rows nf j
-product-found rows nf j a a′ d few narrow l k e =
-    let p : rows * nf ≤ length j = rw l (le-refl _) in
-    let q : rows * rows ≤ length a = rw k (le-refl _) in
-    let full : length a ≤ rows * rows = rw k (le-refl _) in
-    e .slice ∙ rw (le-ltb 80 rows few, le-ltb 80 nf narrow, le-leb (rows * nf) (length j) p, le-leb (rows * rows) (length a) q, drop-of-length-le a full, append-nil)
+-- the half of the product, which holds the product, and the largest number on its diagonal
+module _ (rows nf : ℕ) (j h h′ : List Float) (few : rows ≤ 80) (narrow : nf ≤ 80) (l : length j ≡ rows * nf) (k : length h ≡ triangle rows) (d : Made) (e : Multiplies rows nf j h h′ d) where
+  holds : HalfHolds rows (productOf rows nf j) h′
+  holds =
+      let p : rows * nf ≤ length j = rw l (le-refl _) in
+      let q : triangle rows ≤ length h = rw k (le-refl _) in
+      let made : h′ ≡ halfOf rows (productOf rows nf j) ++ drop (triangle rows) h =
+      e .slice ∙ rw (le-ltb 80 rows few, le-ltb 80 nf narrow, le-leb (rows * nf) (length j) p, le-leb (triangle rows) (length h) q) in
+      rw made (same-numbers rows nf j (drop (triangle rows) h) .1)
 
-pub diagonal-found : (rows : ℕ) (a : List Float) (t : Largest) (m : Float) → rows ≤ 80 → length a ≡ rows * rows → Tops rows a t → m ≡ largestIn t → m ≡ diagMaxOf rows a
-diagonal-found rows a t m few k e h =
-    let q : rows * rows ≤ length a = rw k (le-refl _) in
-    h ∙ ap largestIn (e .answer) ∙ rw (le-ltb 80 rows few, le-leb (rows * rows) (length a) q)
+  pub product-found : spreadOf rows h′ ≡ productOf rows nf j
+  product-found = holds .spread
+
+  pub diagonal-found : (t : Largest) (m : Float) → length h′ ≡ length h → Tops rows h′ t → m ≡ largestIn t → m ≡ diagMaxOf rows (spreadOf rows h′)
+  diagonal-found t m kept o c =
+      let q : triangle rows ≤ length h′ = rw (kept ∙ k) (le-refl _) in
+      c ∙ ap largestIn (o .answer) ∙ rw (le-ltb 80 rows few, le-leb (triangle rows) (length h′) q, product-found) (holds .largest)
 
 module _ (P : Problem) (J : List Float → List Float) where
   pub round-is : (x r x′ r′ j : List Float) (f : Fit) (t : Attempted) → r ≡ P .values x → j ≡ J x → triedOf x′ r′ t ≡ triesAt P j (stateOf x r (begunFit f))

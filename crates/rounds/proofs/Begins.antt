@@ -1,5 +1,5 @@
 -- From what the calls of a fit's beginning promise to the definition. Assumes nothing.
-use Prim.Native.Nat.{ℕ, _*_, _≤_, _<_}
+use Prim.Native.Nat.{ℕ, _+_, _*_, _≤_, _<_}
 use mathlib.Core.Bool.{Bool, true, false, _||_}
 use mathlib.Core.List.{List, _++_}
 use mathlib.Core.Path.{_≡_, refl, sym, ap, _∙_}
@@ -69,6 +69,9 @@ table m n h k = mul-le-mul h k
 
 pub table-fits : (m n : ℕ) → m ≤ 80 → n ≤ 80 → Fits w64 (m * n)
 table-fits m n h k = let t = table m n h k in record { fits = omega arith }
+
+pub half-fits : (m : ℕ) → m ≤ 80 → Fits w64 (m * (m + 1))
+half-fits m h = let k : m + 1 ≤ 81 = omega arith in record { fits = omega (arith, mul-le-mul h k) }
 
 pub fits-in : (m n k : ℕ) → m ≤ 80 → n ≤ 80 → 6400 ≤ k → m * n ≤ k
 fits-in m n k h l t = let p = table m n h l in omega arith

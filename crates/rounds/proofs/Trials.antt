@@ -10,6 +10,7 @@ use lib.Ieee.{Float}
 use lib.ListN.{length, take, drop, length-append, length-drop, drop-of-length-le}
 use lib.Seq.{take-all, take-at}
 use Rattle.floats.specs.Lists.{copiedOf}
+use Rattle.normal.specs.Half.{triangle, spreadOf}
 use Rattle.normal.specs.Normal.{dampedOf, movedOf}
 use Rattle.normal.specs.Promise.{Damps, Moves}
 use Rattle.normal.specs.declared.Made.{Made}
@@ -38,25 +39,27 @@ module _ {A : Type 0} (n : ℕ) (a b : List Float) (x y z : A) where
   unfolding checked
   carried h s t = rw (le-ltb 80 n h, le-leb (n * n) (length a) s, le-leb n (length b) t)
 
-module _ (n : ℕ) (mu m : Float) (a w w₁ : List Float) (d : Made) (few : n ≤ 80) (h : n * n ≤ length a) (k : n * n ≤ length w) (e : Damps n mu m a w w₁ d)
+module _ (n : ℕ) (mu m : Float) (h w w₁ : List Float) (d : Made) (few : n ≤ 80) (half : triangle n ≤ length h) (k : n * n ≤ length w) (e : Damps n mu m h w w₁ d)
     (kept : length w₁ ≡ length w) where
-  made : w₁ ≡ dampedOf n mu m (take (n * n) a) ++ drop (n * n) w
-  made = e .slice ∙ rw (le-ltb 80 n few, le-leb (n * n) (length a) h, le-leb (n * n) (length w) k)
+  abbrev damped : List Float
+  damped = dampedOf n mu m (spreadOf n h)
 
-  head-long : length (dampedOf n mu m (take (n * n) a)) ≡ n * n
+  made : w₁ ≡ damped ++ drop (n * n) w
+  made = e .slice ∙ rw (le-ltb 80 n few, le-leb (triangle n) (length h) half, le-leb (n * n) (length w) k)
+
+  head-long : length damped ≡ n * n
   head-long =
-      let l : length (dampedOf n mu m (take (n * n) a)) + (length w - n * n) ≡ length w =
-      sym (length-append (dampedOf n mu m (take (n * n) a)) (drop (n * n) w) ∙ ap (λ x. length (dampedOf n mu m (take (n * n) a)) + x) (length-drop (n * n) w))
-      ∙ sym (ap length made) ∙ kept in
+      let l : length damped + (length w - n * n) ≡ length w =
+      sym (length-append damped (drop (n * n) w) ∙ ap (λ x. length damped + x) (length-drop (n * n) w)) ∙ sym (ap length made) ∙ kept in
       omega arith
 
-  damped-head : take (n * n) w₁ ≡ dampedOf n mu m (take (n * n) a)
-  damped-head = rw made (take-at (dampedOf n mu m (take (n * n) a)) (drop (n * n) w) (n * n) head-long)
+  damped-head : take (n * n) w₁ ≡ damped
+  damped-head = rw made (take-at damped (drop (n * n) w) (n * n) head-long)
 
-pub eliminated-is : (n : ℕ) (mu m : Float) (a r w y w₁ y₁ w₂ y₂ : List Float) (d : Made) (e : Elimination) → n ≤ 80 → n * n ≤ length a → length r ≡ n
-    → n * n ≤ length w → length y ≡ n → Damps n mu m a w w₁ d → length w₁ ≡ length w → y₁ ≡ copiedOf r y → Solves n w₁ y₁ w₂ y₂ e
-    → Finds n (dampedOf n mu m (take (n * n) a)) r y₂ e
-eliminated-is n mu m a r w y w₁ y₁ w₂ y₂ d e few ha hr hw hy h kept c s =
+pub eliminated-is : (n : ℕ) (mu m : Float) (h r w y w₁ y₁ w₂ y₂ : List Float) (d : Made) (e : Elimination) → n ≤ 80 → triangle n ≤ length h → length r ≡ n
+    → n * n ≤ length w → length y ≡ n → Damps n mu m h w w₁ d → length w₁ ≡ length w → y₁ ≡ copiedOf r y → Solves n w₁ y₁ w₂ y₂ e
+    → Finds n (dampedOf n mu m (spreadOf n h)) r y₂ e
+eliminated-is n mu m h r w y w₁ y₁ w₂ y₂ d e few half hr hw hy made kept c s =
     let same : y₁ ≡ r = copied-whole r y y₁ (hy ∙ sym hr) c in
     let long : length y₁ ≡ n = ap length same ∙ hr in
     let fits : n * n ≤ length w₁ = rw kept hw in
@@ -65,8 +68,8 @@ eliminated-is n mu m a r w y w₁ y₁ w₂ y₂ d e few ha hr hw hy h kept c s 
     let S : Reasoned (List Float) = solved n w₁ y₁ in
     let q : e ≡ found S = s .answer ∙ carried n w₁ y₁ TooMany TooShort (found S) few fits room in
     let t : y₂ ≡ orZeros n S ++ drop n y₁ = s .right ∙ carried n w₁ y₁ y₁ y₁ (orZeros n S ++ drop n y₁) few fits room in
-    let head : take (n * n) w₁ ≡ dampedOf n mu m (take (n * n) a) = damped-head n mu m a w w₁ d few ha hw h kept in
-    let it : S ≡ reasonedOf n (dampedOf n mu m (take (n * n) a)) r = ap (λ v. reasonedOf n (take (n * n) w₁) v) (take-all n y₁ full ∙ same) ∙ ap (λ v. reasonedOf n v r) head in
+    let head : take (n * n) w₁ ≡ dampedOf n mu m (spreadOf n h) = damped-head n mu m h w w₁ d few half hw made kept in
+    let it : S ≡ reasonedOf n (dampedOf n mu m (spreadOf n h)) r = ap (λ v. reasonedOf n (take (n * n) w₁) v) (take-all n y₁ full ∙ same) ∙ ap (λ v. reasonedOf n v r) head in
     record { answer = q ∙ ap found it; right = λ i. answered n S e y₂ (drop n y₁) q t (drop-of-length-le y₁ full) i ∙ it }
 
 -- a try without an answer is not taken, for elimination's reason
@@ -76,13 +79,9 @@ lacking s (some y) e next q i = let j : isSome Some ≡ false = rw q at i in cc
 lacking s (noPivot c) e next q i = rw q
 lacking s notFinite e next q i = rw q
 
-module _ (P : Problem) (j a x r y : List Float) (m mu : Float) (e : Elimination) (n : ℕ) (count : n ≡ P .rows)
-    (f : Finds n (dampedOf n mu m (take (n * n) a)) r y e) (whole : length a ≡ n * n) where
-  product-whole : take (n * n) a ≡ a
-  product-whole = let l : length a ≤ n * n = omega arith in take-all (n * n) a l
-
+module _ (P : Problem) (j a x r y : List Float) (m mu : Float) (e : Elimination) (n : ℕ) (count : n ≡ P .rows) (f : Finds n (dampedOf n mu m a) r y e) where
   at-product : Finds (P .rows) (dampedOf (P .rows) mu m a) r y e
-  at-product = rw (product-whole, count) at f
+  at-product = rw count at f
 
   pub no-trial : (s : State) → isSome e ≡ false → judged s (trialOf P j a m mu x r) ≡ record { improved = false; state = harder (lackOf e) s }
   unfolding trialOf

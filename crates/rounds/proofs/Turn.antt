@@ -17,7 +17,7 @@ use Rattle.sketch.specs.declared.Line.{Line}
 use Rattle.solver.specs.Reasons.{Reasoned, some, noPivot, notFinite}
 use Rattle.solver.specs.Sums.{norm2Of}
 use Rattle.rounds.proofs.Column.{column-is}
-use Rattle.rounds.specs.Inside.{trialMade, begunFit, takenFit, harderFit, triesAt, Shapes, Squares}
+use Rattle.rounds.specs.Inside.{trialMade, begunFit, takenFit, harderFit, triesAt, Shapes, Matrices}
 use Rattle.rounds.specs.Problem.{rowCount, valuesAt, stateOf, triedOf}
 use Rattle.rounds.specs.Solve.{Problem, State, Trial, Tried, judged, trialOf, tryOf, triesOf, orNext, better, taken, harder}
 use Rattle.rounds.specs.declared.Fit.{Fit}
@@ -116,8 +116,8 @@ reshaped es chosen free j r j′ r′ s ej er = record {
   jacobian-long = rw (er, ej) (s .jacobian-long);
 }
 
-pub squared : (r a w r′ a′ w′ : List Float) → Squares r a w → length r′ ≡ length r → length a′ ≡ length a → length w′ ≡ length w → Squares r′ a′ w′
-squared r a w r′ a′ w′ s er ea ew = record {
-  product-long = rw (er, ea) (s .product-long);
+pub matched : (r h w r′ h′ w′ : List Float) → Matrices r h w → length r′ ≡ length r → length h′ ≡ length h → length w′ ≡ length w → Matrices r′ h′ w′
+matched r h w r′ h′ w′ s er eh ew = record {
+  half-long = rw (er, eh) (s .half-long);
   work-long = rw (er, ew) (s .work-long);
 }

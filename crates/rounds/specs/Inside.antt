@@ -8,6 +8,7 @@ use lib.Ieee.{Float}
 use lib.ListN.{length, take}
 use Rattle.floats.specs.Magnitude.{maxOf}
 use Rattle.floats.specs.Ops.{_⊗_, zero⁺, ten, tenth, 1e-10, 1e-15}
+use Rattle.normal.specs.Half.{triangle}
 use Rattle.normal.specs.Normal.{productOf, diagMaxOf}
 use Rattle.normal.specs.declared.Largest.{Largest}
 use Rattle.sketch.specs.declared.Active.{Active}
@@ -64,9 +65,9 @@ pub record Shapes (es : List Active) (chosen free : List ℕ) (j r : List Float)
   pub narrow : length free ≤ 80
   pub jacobian-long : length j ≡ length r * length free
 
--- those of a round: the product and its working copy
-pub record Squares (r a w : List Float) : Type 0 where
-  pub product-long : length a ≡ length r * length r
+-- those of a round: the half of the product, and its working copy
+pub record Matrices (r h w : List Float) : Type 0 where
+  pub half-long : length h ≡ triangle (length r)
   pub work-long : length w ≡ length r * length r
 
 -- and those of a trial

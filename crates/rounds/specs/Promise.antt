@@ -10,6 +10,7 @@ use Rattle.floats.specs.Only.{only-answer}
 use Rattle.floats.specs.Ops.{zero⁺}
 use Rattle.loops.specs.Numbers.{Meaning, refused, values, notConverged}
 use Rattle.loops.specs.Numbers as number
+use Rattle.normal.specs.Half.{triangle}
 use Rattle.sketch.specs.declared.Active.{Active}
 use Rattle.sketch.specs.declared.Line.{Line}
 use Rattle.rounds.specs.Inside.{endedOf}
@@ -81,14 +82,14 @@ module _ (es : List Active) (ls : List Line) (places columns chosen free : List 
       pub meaning : meaningOf x′ s ≡ checked (refused number.tooMany) (refused number.tooShort) (meant (outcomeOf x))
       pub coordinates : x′ ≡ checked x x (coordinatesOf x (outcomeOf x))
       pub jacobian : a′ ≡ checked a a (zeroed (rowCount es chosen * length free) a)
-      pub product : b′ ≡ checked b b (zeroed (rowCount es chosen * rowCount es chosen) b)
+      pub product : b′ ≡ checked b b (zeroed (triangle (rowCount es chosen)) b)
       pub copy : c′ ≡ checked c c (zeroed (rowCount es chosen * rowCount es chosen) c)
 
     -- what the fit comes to and leaves, where nothing is refused
     pub record Leaves (x′ a′ b′ c′ : List Float) (e : Ended) : Type 0 where
       pub outcome : endedOf x′ e ≡ outcomeOf x
       pub jacobian : a′ ≡ zeroed (rowCount es chosen * length free) a
-      pub product : b′ ≡ zeroed (rowCount es chosen * rowCount es chosen) b
+      pub product : b′ ≡ zeroed (triangle (rowCount es chosen)) b
       pub copy : c′ ≡ zeroed (rowCount es chosen * rowCount es chosen) c
 
     -- no second answer, and no other content of a lent place, meets the promise

@@ -1,7 +1,8 @@
 // One damping attempt: its elimination, and what comes of it where that has an answer.
 ghost use mathlib.Core.Path.{_≡_};
 ghost use Prim.Native.Nat.{_*_, _≤_, _<_};
-ghost use lib.ListN.{length, take};
+ghost use lib.ListN.{length};
+ghost use Rattle.normal.specs.Half.{triangle, spreadOf};
 ghost use Rattle.normal.specs.Normal.{dampedOf, movedOf};
 ghost use Rattle.solver.specs.Promise.{Finds};
 ghost use Rattle.solver.specs.Reasons.{some};
@@ -29,21 +30,21 @@ pub(crate) fn lack(e: Elimination) -> Reason
     }
 }
 
-// The step's y: the damped product goes to w and is eliminated there with the residuals r on the right side.
+// The step's y: the half h is spread into w, damped and eliminated there with the residuals r on the right side.
 pub(crate) fn eliminated(
-    a: &[f64],
+    h: &[f64],
     r: &[f64],
     w: &mut [f64],
     y: &mut [f64],
     mu: f64,
     m: f64,
 ) -> Elimination
-    requires { ⌜ (length (now r) ≤ 80) × (length (now r) * length (now r) ≤ length (now a)) × (length (now r) * length (now r) ≤ length (now w)) × (length (now y) ≡ length (now r)) ⌝ }
-    ensures { λ e. ⌜ Finds (length (now (r .entry))) (dampedOf (length (now (r .entry))) mu m (take (length (now (r .entry)) * length (now (r .entry))) (now (a .entry))))
+    requires { ⌜ (length (now r) ≤ 80) × (triangle (length (now r)) ≤ length (now h)) × (length (now r) * length (now r) ≤ length (now w)) × (length (now y) ≡ length (now r)) ⌝ }
+    ensures { λ e. ⌜ Finds (length (now (r .entry))) (dampedOf (length (now (r .entry))) mu m (spreadOf (length (now (r .entry))) (now (h .entry))))
         (now (r .entry)) (now (y .exit)) e ⌝ }
 {
     let rows = r.len();
-    normal::damped(a, w, rows, mu, m);
+    normal::damped(h, w, rows, mu, m);
     floats::copy(r, y);
     solver::solve_dense(w, y, rows)
 }

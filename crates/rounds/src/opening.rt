@@ -4,7 +4,7 @@ ghost use Prim.Native.Nat.{_≤_};
 ghost use lib.ListN.{length};
 ghost use Rattle.members.specs.Lists.{numbersOf};
 ghost use Rattle.members.specs.Movable.{indicesOf};
-ghost use Rattle.rounds.specs.Inside.{Shapes, Squares, Own, Begun, endedOf};
+ghost use Rattle.rounds.specs.Inside.{Shapes, Matrices, Own, Begun, endedOf};
 ghost use Rattle.rounds.specs.Promise.{Solves, Leaves, outcomeOf, answerOf, saying};
 use crate::Ended;
 use crate::Fit;
@@ -27,10 +27,10 @@ fn opened(
     x: &mut [f64],
     r: &mut [f64],
     j: &mut [f64],
-    a: &mut [f64],
+    h: &mut [f64],
     w: &mut [f64],
 ) -> Ended
-    requires { ⌜ Shapes equations (now chosen) (now free) (now j) (now r) × Squares (now r) (now a) (now w) × (length (now x) ≤ 80)
+    requires { ⌜ Shapes equations (now chosen) (now free) (now j) (now r) × Matrices (now r) (now h) (now w) × (length (now x) ≤ 80)
         × Own equations lines (now places) (now chosen) (now x) (now r) ⌝ }
     ensures { λ e. ⌜ endedOf (now (x .exit)) e ≡ outcomeOf equations lines (now (places .entry)) (now (columns .entry)) (now (chosen .entry)) (now (free .entry)) (now (x .entry)) ⌝ }
 {
@@ -57,7 +57,7 @@ fn opened(
         x,
         r,
         j,
-        a,
+        h,
         w,
         start,
     )
@@ -78,7 +78,7 @@ fn first_values(
     rows::residuals(equations, lines, chosen, places, x, r)
 }
 
-// The Jacobian lies in a, the product in b and its working copy in c; what they held there is +0.0 afterwards. The problem's tables are
+// The Jacobian lies in a, the half of the product in b and its working copy in c; what they held there is +0.0 afterwards. The problem's tables are
 // lent from here, once a fit: a function that lends a table of a value works on a copy of it.
 fn in_areas(p: Posed, x: &mut [f64], a: &mut [f64], b: &mut [f64], c: &mut [f64]) -> Ended
     requires { ⌜ (length (now x) ≤ 80) × (6400 ≤ length (now a)) × (6400 ≤ length (now b)) × (6400 ≤ length (now c)) ⌝ }
@@ -98,6 +98,7 @@ fn in_areas(p: Posed, x: &mut [f64], a: &mut [f64], b: &mut [f64], c: &mut [f64]
     let mut r = [0.0; 80];
     let rows = first_values(equations, lines, &items[..k], &places, x, &mut r);
     let size = rows * nf;
+    let half = rows * (rows + 1) / 2;
     let square = rows * rows;
     let e = opened(
         equations,
@@ -109,11 +110,11 @@ fn in_areas(p: Posed, x: &mut [f64], a: &mut [f64], b: &mut [f64], c: &mut [f64]
         x,
         &mut r[..rows],
         &mut a[..size],
-        &mut b[..square],
+        &mut b[..half],
         &mut c[..square],
     );
     floats::clear(&mut a[..size]);
-    floats::clear(&mut b[..square]);
+    floats::clear(&mut b[..half]);
     floats::clear(&mut c[..square]);
     e
 }

@@ -1,7 +1,7 @@
 // The damping attempts of a round.
 ghost use mathlib.Core.Path.{_≡_};
 ghost use Prim.Native.Nat.{_≤_};
-ghost use Rattle.rounds.specs.Inside.{begunFit, largestIn, triesAt, Shapes, Squares, Trying};
+ghost use Rattle.rounds.specs.Inside.{begunFit, largestIn, triesAt, Shapes, Matrices, Trying};
 ghost use Rattle.rounds.specs.Problem.{rowCount, problemOf, stateOf, triedOf};
 use crate::Attempted;
 use crate::Fit;
@@ -23,7 +23,7 @@ fn largest(l: Largest) -> f64
     }
 }
 
-// At most twelve tries with the Jacobian j, until one is taken. Its product goes to a.
+// At most twelve tries with the Jacobian j, until one is taken. The half of its product goes to h.
 pub(crate) fn all_tries(
     equations: [Active; 40],
     lines: [Line; 40],
@@ -33,22 +33,22 @@ pub(crate) fn all_tries(
     j: &[f64],
     x: &mut [f64],
     r: &mut [f64],
-    a: &mut [f64],
+    h: &mut [f64],
     w: &mut [f64],
     xn: &mut [f64],
     rn: &mut [f64],
     fit: Fit,
 ) -> Attempted
-    requires { ⌜ Shapes equations (now chosen) (now free) (now j) (now r) × Squares (now r) (now a) (now w) × Trying (now x) (now r) (now xn) (now rn) × (fit .iterations ≤ 200) × (fit .tries ≤ 2400) ⌝ }
+    requires { ⌜ Shapes equations (now chosen) (now free) (now j) (now r) × Matrices (now r) (now h) (now w) × Trying (now x) (now r) (now xn) (now rn) × (fit .iterations ≤ 200) × (fit .tries ≤ 2400) ⌝ }
     ensures { λ t. ⌜ triedOf (now (x .exit)) (now (r .exit)) t
         ≡ triesAt (problemOf equations lines (now (places .entry)) (now (chosen .entry)) (now (free .entry)) (rowCount equations (now (chosen .entry)))) (now (j .entry)) (stateOf (now (x .entry)) (now (r .entry)) (begunFit fit)) ⌝ }
 {
     let rows = r.len();
-    normal::product(j, a, rows, free.len());
-    let m = largest(normal::diag_max(a, rows));
+    normal::product(j, h, rows, free.len());
+    let m = largest(normal::diag_max(h, rows));
     let mut f = fit.begun();
     for _ in 0..Fit::MAX_TRIES {
-        let e = eliminated(a, r, w, rn, f.mu, m);
+        let e = eliminated(h, r, w, rn, f.mu, m);
         if !solver::is_some(e) {
             f = f.harder(lack(e));
             continue;

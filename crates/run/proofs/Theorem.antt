@@ -44,7 +44,7 @@ module _ (p q r : List Float) where
   says-by reply h Read b k i = says-exactly (answerAfter b (came p q r b)) (outputAfter b room (came p q r b)) (b .«point_count») (b .«measure_count») reply h k i
   says-by reply h (Ends e) b k i = says-exactly (refusedOf e) [] 0 0 reply h k i
 
-  module _ (s : List ℕ) (pr : 8192 ≤ length p) (qr : 8192 ≤ length q) (rr : 8192 ≤ length r) where
+  module _ (s : List ℕ) (pr : 6400 ≤ length p) (qr : 6400 ≤ length q) (rr : 6400 ≤ length r) where
     -- the counts of a text that is read are within their bounds
     counts-few : (j : Job) → Writes s j → overBound (buildOf j) ≡ false
     counts-few j w =
@@ -56,7 +56,7 @@ module _ (p q r : List Float) where
     has-room j w =
         let b = w .bounded in
         let out : 2 * length (j .points) + length (j .measures) ≤ length room = omega (arith, b .0, b .3) in
-        rw (le-ltb (length room) (2 * length (j .points) + length (j .measures)) out, le-ltb (length p) 8192 pr, le-ltb (length q) 8192 qr, le-ltb (length r) 8192 rr)
+        rw (le-ltb (length room) (2 * length (j .points) + length (j .measures)) out, le-ltb (length p) 6400 pr, le-ltb (length q) 6400 qr, le-ltb (length r) 6400 rr)
 
     -- 1, 2 and 3, which no build of a text has
     refused-exactly : (e : Ending) → ((j : Job) → Writes s j → builtNumber p q r (buildOf j) ≢ numberOf e)

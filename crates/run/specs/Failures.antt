@@ -36,5 +36,5 @@ pub record Failure (b : Build) (reply : List ℕ) : Type 0 where
 -- with room for every reply, and areas that have room
 abbrev pub FailuresPrinted : Type 0
 FailuresPrinted = (s reply reply′ : List ℕ) (p q r p′ q′ r′ : List Float) (n : ℕ) → Runs s reply p q r reply′ p′ q′ r′ n
-    → 8192 ≤ length reply → 8192 ≤ length p → 8192 ≤ length q → 8192 ≤ length r
+    → 8192 ≤ length reply → 6400 ≤ length p → 6400 ≤ length q → 6400 ≤ length r
     → Says reply′ 7 → (j : Job) × Writes s j × Failure (buildOf j) reply′

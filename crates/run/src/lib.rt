@@ -14,7 +14,7 @@ fn reply_to(b: Build, reply: &mut [u8], p: &mut [f64], q: &mut [f64], r: &mut [f
 }
 
 // Runs the job whose text is `s`. The answer is the room that the reply needs; where `reply` has it the reply is at its head, and
-// where it has not, `reply` is as it was. The three work areas have room for 8,192 numbers each.
+// where it has not, `reply` is as it was. The three work areas have room for 6,400 numbers each.
 pub fn run(s: &[u8], reply: &mut [u8], p: &mut [f64], q: &mut [f64], r: &mut [f64]) -> usize
     ensures { λ n. ⌜ Runs (now (s .entry)) (now (reply .entry)) (now (p .entry)) (now (q .entry)) (now (r .entry)) (now (reply .exit)) (now (p .exit)) (now (q .exit)) (now (r .exit)) n ⌝ }
 {

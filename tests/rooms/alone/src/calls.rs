@@ -117,7 +117,8 @@ fn start(build: &Build, point: usize) -> [f64; 2] {
 /// many places at its head are +0.0 and how many after these still 7.0.
 fn lent(build: &Build, out: usize, areas: [usize; 3]) -> String {
     let (text, mut out, mut areas) = (job::write(build), vec![LENT; out], areas.map(|n| vec![LENT; n]));
-    let mut reply = match rooms::solve(&text, &mut out, &mut areas) {
+    let [p, q, r] = &mut areas;
+    let mut reply = match rooms::solve(&text, &mut out, p, q, r) {
         TOO_SHORT => format!("status={TOO_SHORT}\n"),
         number => {
             let printed = String::from_utf8_lossy(Fitter::new().run(&text)).into_owned();

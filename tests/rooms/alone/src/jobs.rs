@@ -24,7 +24,8 @@ pub fn reply(fitter: &mut Fitter, text: &[u8]) -> String {
 /// another place is touched, the reply says so.
 pub fn reply_from_slice(fitter: &mut Fitter, text: &[u8]) -> String {
     let (mut out, mut areas) = (vec![LENT; 2 * job::MAX_POINTS + job::MAX_MEASURES], [(); 3].map(|()| vec![LENT; AREA]));
-    let number = rooms::solve(text, &mut out, &mut areas);
+    let [p, q, r] = &mut areas;
+    let number = rooms::solve(text, &mut out, p, q, r);
     let mut places = out.into_iter();
     let mut reply = String::new();
     for printed in self::reply(fitter, text).split_inclusive('\n') {

@@ -189,7 +189,7 @@ pub fn measures(text: &[u8], points: &[f64], out: &mut [f64]) {
 }
 
 /// The library call itself, on the build of a text: the number that the job ends in.
-pub fn solve(text: &[u8], out: &mut [f64], [p, q, r]: &mut [Vec<f64>; 3]) -> usize {
+pub fn solve(text: &[u8], out: &mut [f64], p: &mut [f64], q: &mut [f64], r: &mut [f64]) -> usize {
     unsafe {
         rooms_solve(text.as_ptr(), text.len(), out.as_mut_ptr(), out.len(), p.as_mut_ptr(), p.len(), q.as_mut_ptr(), q.len(), r.as_mut_ptr(), r.len())
     }

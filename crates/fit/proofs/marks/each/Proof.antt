@@ -7,7 +7,7 @@ use lib.ListN.{length, drop}
 use Rattle.loops.specs.Turns.{fold}
 use Rattle.members.specs.Lists.{numbersOf}
 use Rattle.fit.specs.Fits.{mark, suspectsOf}
-use Rattle.fit.specs.Promise.{jacobianLeft, productLeft}
+use Rattle.fit.specs.Promise.{jacobianLeft, productLeft, copyLeft}
 use Rattle.fit.proofs.MarksLaws.{still-long, marked, turn-next, turns-over}
 use Rattle.fit.proofs.marks.each.Statement.{statement}
 use Rattle.fit.proofs.marks.each.Tie as tie
@@ -22,7 +22,7 @@ Inv-loop b f p₀ q₀ r₀ items n marks₀ i₀ p q r marks i =
     × (fold (mark b f) marks (drop i (numbersOf (f .equations .0))) ≡ suspectsOf b f)
     × (fold (jacobianLeft b f) p (drop i (numbersOf (f .equations .0))) ≡ fold (jacobianLeft b f) p₀ (numbersOf (f .equations .0)))
     × (fold (productLeft b f) q (drop i (numbersOf (f .equations .0))) ≡ fold (productLeft b f) q₀ (numbersOf (f .equations .0)))
-    × (fold (productLeft b f) r (drop i (numbersOf (f .equations .0))) ≡ fold (productLeft b f) r₀ (numbersOf (f .equations .0)))
+    × (fold (copyLeft b f) r (drop i (numbersOf (f .equations .0))) ≡ fold (copyLeft b f) r₀ (numbersOf (f .equations .0)))
 
 abbrev μ-loop : tie.MeasureT-loop
 μ-loop b f p₀ q₀ r₀ items n marks₀ i₀ p q r marks i = n - i
@@ -78,7 +78,7 @@ loop-again c =
       turn-next (s .args .f .equations .0) (m .numbers .result) i (m .numbers .ensures .0) (mark (s .args .b) (s .args .f)) (l .loop .marks) (u .put .last .0) _ h (marked (s .args .b) (s .args .f) (l .loop .marks) (u .put .last .0) _ (t .suspect .result) (u .put .ensures) (t .suspect .ensures .answer)) (l .loop .inv .5),
       turn-next (s .args .f .equations .0) (m .numbers .result) i (m .numbers .ensures .0) (jacobianLeft (s .args .b) (s .args .f)) (l .loop .p) (t .suspect .last .1 .1 .1 .0) _ h (t .suspect .ensures .jacobian) (l .loop .inv .6),
       turn-next (s .args .f .equations .0) (m .numbers .result) i (m .numbers .ensures .0) (productLeft (s .args .b) (s .args .f)) (l .loop .q) (t .suspect .last .1 .1 .1 .1 .0) _ h (t .suspect .ensures .product) (l .loop .inv .7),
-      turn-next (s .args .f .equations .0) (m .numbers .result) i (m .numbers .ensures .0) (productLeft (s .args .b) (s .args .f)) (l .loop .r) (t .suspect .last .1 .1 .1 .1 .1 .0) _ h (t .suspect .ensures .copy) (l .loop .inv .8),
+      turn-next (s .args .f .equations .0) (m .numbers .result) i (m .numbers .ensures .0) (copyLeft (s .args .b) (s .args .f)) (l .loop .r) (t .suspect .last .1 .1 .1 .1 .1 .0) _ h (t .suspect .ensures .copy) (l .loop .inv .8),
     )
 
 same-length : tie.Need-same-length Inv-loop μ-loop
@@ -99,7 +99,7 @@ returns c =
       answer = turns-over (s .args .f .equations .0) (m .numbers .result) (l .loop .i) (m .numbers .ensures .0) (mark (s .args .b) (s .args .f)) (l .loop .marks) _ (c .loop-test .left) (l .loop .inv .5);
       jacobian = turns-over (s .args .f .equations .0) (m .numbers .result) (l .loop .i) (m .numbers .ensures .0) (jacobianLeft (s .args .b) (s .args .f)) (l .loop .p) _ (c .loop-test .left) (l .loop .inv .6);
       product = turns-over (s .args .f .equations .0) (m .numbers .result) (l .loop .i) (m .numbers .ensures .0) (productLeft (s .args .b) (s .args .f)) (l .loop .q) _ (c .loop-test .left) (l .loop .inv .7);
-      copy = turns-over (s .args .f .equations .0) (m .numbers .result) (l .loop .i) (m .numbers .ensures .0) (productLeft (s .args .b) (s .args .f)) (l .loop .r) _ (c .loop-test .left) (l .loop .inv .8);
+      copy = turns-over (s .args .f .equations .0) (m .numbers .result) (l .loop .i) (m .numbers .ensures .0) (copyLeft (s .args .b) (s .args .f)) (l .loop .r) _ (c .loop-test .left) (l .loop .inv .8);
     }
 
 pub each-spec : {M : Type 1} → statement M

@@ -11,7 +11,7 @@ returns c =
     let k = d .before .before .before .before .before in
     let e = k .before .before .before .before in
     let s = e .before .before .before .before .before .before in
-    eliminated-is (length (s .args .r .now)) (s .args .mu) (s .args .m) (s .args .a .now) (s .args .r .now) (s .args .w .now) (s .args .y .now)
+    eliminated-is (length (s .args .r .now)) (s .args .mu) (s .args .m) (s .args .h .now) (s .args .r .now) (s .args .w .now) (s .args .y .now)
     (e .damped .last .1 .0) (k .copy .last .1 .0) (d .solve-dense .last .0) (d .solve-dense .last .1 .0) (e .damped .result) (d .solve-dense .result)
     (s .pre .0) (s .pre .1) refl (s .pre .2) (s .pre .3) (e .damped .ensures) (e .damped .kept .1 .0) (k .copy .ensures) (d .solve-dense .ensures)
 

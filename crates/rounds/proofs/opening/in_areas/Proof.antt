@@ -1,6 +1,6 @@
-use Prim.Native.Nat.{ℕ, _*_, _≤_}
+use Prim.Native.Nat.{ℕ, _+_, _*_, _/_, _≤_}
 use mathlib.Core.List.{List, _++_}
-use mathlib.Core.Path.{_≡_, sym, _∙_}
+use mathlib.Core.Path.{_≡_, refl, sym, _∙_}
 use lib.Ieee.{Float}
 use lib.ListN.{length, take, drop}
 use native.Mathlib.Omega.{arith}
@@ -11,7 +11,9 @@ use Rattle.members.proofs.Sized.{sized}
 use Rattle.members.specs.Lists.{numbersOf}
 use Rattle.members.specs.Movable.{indicesOf}
 use Rattle.loops.proofs.Parts.{front, still-fits, refilled}
-use Rattle.rounds.proofs.Begins.{table-fits, fits-in, left-of}
+use Rattle.normal.proofs.Halves.{few-places}
+use Rattle.normal.specs.Half.{triangle}
+use Rattle.rounds.proofs.Begins.{table-fits, half-fits, fits-in, left-of}
 use borrow.Author.Needs.{needs}
 use Rattle.rounds.proofs.opening.in_areas.Statement.{statement}
 use Rattle.rounds.proofs.opening.in_areas.Tie as tie
@@ -86,6 +88,9 @@ module _ (k : tie.After-first-values) where
   abbrev wide : ℕ
   wide = rows * moving listed
 
+  abbrev half : ℕ
+  half = rows * (rows + 1) / 2
+
   abbrev square : ℕ
   square = rows * rows
 
@@ -98,8 +103,12 @@ module _ (k : tie.After-first-values) where
   in-a : wide ≤ length (start .args .a .now)
   in-a = fits-in rows (moving listed) (length (start .args .a .now)) few (narrow listed) (start .pre .1)
 
-  in-b : square ≤ length (start .args .b .now)
-  in-b = fits-in rows rows (length (start .args .b .now)) few few (start .pre .2)
+  half-is : half ≡ triangle rows
+  unfolding triangle
+  half-is = refl
+
+  in-b : half ≤ length (start .args .b .now)
+  in-b = rw half-is (omega (arith, few-places rows few, start .pre .2))
 
   in-c : square ≤ length (start .args .c .now)
   in-c = fits-in rows rows (length (start .args .c .now)) few few (start .pre .3)
@@ -122,10 +131,10 @@ module _ (o : tie.After-opened) where
   b-head = o .opened .last .1 .1 .1 .1 .1 .1 .1 .1 .1 .0
 
   abbrev b-back : List Float
-  b-back = b-head ++ drop (square found) (start found .args .b .now)
+  b-back = b-head ++ drop (half found) (start found .args .b .now)
 
-  b-fits : square found ≤ length b-back
-  b-fits = still-fits (square found) (start found .args .b .now) b-head (in-b found) (o .opened .kept .1 .1 .1 .1 .1 .1 .1 .1 .1 .0)
+  b-fits : half found ≤ length b-back
+  b-fits = still-fits (half found) (start found .args .b .now) b-head (in-b found) (o .opened .kept .1 .1 .1 .1 .1 .1 .1 .1 .1 .0)
 
   abbrev c-head : List Float
   c-head = o .opened .last .1 .1 .1 .1 .1 .1 .1 .1 .1 .1 .0
@@ -150,6 +159,12 @@ first-values-requires c κs = (chosen-few (c .before .before .before .before), s
 
 mul-size : tie.Need-mul-size
 mul-size c = let k = c .before in table-fits (rows k) (moving (listed k)) (few k) (narrow (listed k))
+
+add-half : tie.Need-add-half
+add-half c = record { fits = omega (arith, few (c .before)) }
+
+mul-half : tie.Need-mul-half
+mul-half c = let k = c .before in half-fits (rows k) (few k)
 
 mul-square : tie.Need-mul-square
 mul-square c = let k = c .before in table-fits (rows k) (rows k) (few k) (few k)
@@ -188,7 +203,7 @@ slice-relend-prefix-opened-2 : tie.Need-slice-relend-prefix-opened-2
 slice-relend-prefix-opened-2 c = in-b (c .before .before .before .before .before .before .before .before)
 
 slice-aggregate-opened-7 : tie.Need-slice-aggregate-opened-7
-slice-aggregate-opened-7 c = let k = c .before .before .before .before .before .before .before .before .before in front (square k) (start k .args .b .now) (in-b k)
+slice-aggregate-opened-7 c = let k = c .before .before .before .before .before .before .before .before .before in front (half k) (start k .args .b .now) (in-b k)
 
 slice-relend-prefix-opened-3 : tie.Need-slice-relend-prefix-opened-3
 slice-relend-prefix-opened-3 c = in-c (c .before .before .before .before .before .before .before .before .before)
@@ -211,7 +226,7 @@ opened-requires c κs =
         jacobian-long = rw (long, slots) (sym (front (wide k) (s .args .a .now) (in-a k)));
       },
       record {
-        product-long = rw long (sym (front (square k) (s .args .b .now) (in-b k)));
+        half-long = rw long (sym (front (half k) (s .args .b .now) (in-b k)) ∙ half-is k);
         work-long = rw long (sym (front (square k) (s .args .c .now) (in-c k)));
       },
       s .pre .0,
@@ -228,7 +243,7 @@ slice-relend-prefix-clear-2 : tie.Need-slice-relend-prefix-clear-2
 slice-relend-prefix-clear-2 c = b-fits (c .before .before .before .before .before .before .before .before .before .before .before .before .before)
 
 slice-aggregate-clear-2 : tie.Need-slice-aggregate-clear-2
-slice-aggregate-clear-2 c = let o = c .before .before .before .before .before .before .before .before .before .before .before .before .before .before in front (square (found o)) (b-back o) (b-fits o)
+slice-aggregate-clear-2 c = let o = c .before .before .before .before .before .before .before .before .before .before .before .before .before .before in front (half (found o)) (b-back o) (b-fits o)
 
 slice-relend-prefix-clear-3 : tie.Need-slice-relend-prefix-clear-3
 slice-relend-prefix-clear-3 c = c-fits (c .before .before .before .before .before .before .before .before .before .before .before .before .before .before .before .before .before)
@@ -247,8 +262,8 @@ same-length-3 : tie.Need-same-length-3
 same-length-3 c =
     let z = c .before .before .before .before .before .before in
     let o = z .before .before .before .before .before .before .before .before .before .before .before .before .before .before .before in
-    length-front (b-back o) (z .clear2 .last .0) (square (found o)) (z .clear2 .kept .0)
-    ∙ length-front (start (found o) .args .b .now) (b-head o) (square (found o)) (o .opened .kept .1 .1 .1 .1 .1 .1 .1 .1 .1 .0)
+    length-front (b-back o) (z .clear2 .last .0) (half (found o)) (z .clear2 .kept .0)
+    ∙ length-front (start (found o) .args .b .now) (b-head o) (half (found o)) (o .opened .kept .1 .1 .1 .1 .1 .1 .1 .1 .1 .0)
 
 same-length-4 : tie.Need-same-length-4
 same-length-4 c =
@@ -275,8 +290,8 @@ returns c =
           refilled zero⁺ (wide k) (s .args .a .now) (a-head o) (u .clear .last .0) (in-a k) (o .opened .kept .1 .1 .1 .1 .1 .1 .1 .1 .0) (u .clear .ensures)
           ∙ rw (← e, ← moving-long h);
       product =
-          refilled zero⁺ (square k) (s .args .b .now) (b-head o) (v .clear2 .last .0) (in-b k) (o .opened .kept .1 .1 .1 .1 .1 .1 .1 .1 .1 .0) (v .clear2 .ensures)
-          ∙ rw (← e);
+          refilled zero⁺ (half k) (s .args .b .now) (b-head o) (v .clear2 .last .0) (in-b k) (o .opened .kept .1 .1 .1 .1 .1 .1 .1 .1 .1 .0) (v .clear2 .ensures)
+          ∙ rw (half-is k, ← e);
       copy =
           refilled zero⁺ (square k) (s .args .c .now) (c-head o) (w .clear3 .last .0) (in-c k) (o .opened .kept .1 .1 .1 .1 .1 .1 .1 .1 .1 .1 .0) (w .clear3 .ensures)
           ∙ rw (← e);
@@ -294,6 +309,8 @@ in-areas-spec =
     (λ c. search needs)
     first-values-requires
     mul-size
+    add-half
+    mul-half
     mul-square
     array-share-prefix-items-2
     slice-aggregate-opened

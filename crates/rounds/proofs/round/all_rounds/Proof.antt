@@ -11,12 +11,12 @@ use Rattle.loops.proofs.Parts.{front}
 use Rattle.rounds.specs.Problem.{rowCount, valuesAt, jacobianAt, problemOf, stateOf, triedOf}
 use Rattle.rounds.specs.Solve.{Problem, State, roundOf, roundsOf}
 use Rattle.rounds.proofs.Around.{jacobian-found, round-is, round-counted, round-tried, round-owned, step-counts, rounds-stop, rounds-next, rounds-done}
-use Rattle.rounds.proofs.Turn.{reshaped, squared}
+use Rattle.rounds.proofs.Turn.{reshaped, matched}
 use Rattle.rounds.proofs.round.all_rounds.Statement.{statement}
 use Rattle.rounds.proofs.round.all_rounds.Tie as tie
 
 abbrev Inv-loop : tie.InvT-loop
-Inv-loop equations lines chosen places columns free x₀ r₀ j₀ a₀ w₀ n rows xn₀ rn₀ f₀ counter₀ x r j a w xn rn f counter =
+Inv-loop equations lines chosen places columns free x₀ r₀ j₀ h₀ w₀ n rows xn₀ rn₀ f₀ counter₀ x r j h w xn rn f counter =
     (counter ≤ 200)
     × (f .iterations ≤ counter)
     × (f .tries ≤ 12 * counter)
@@ -26,13 +26,13 @@ Inv-loop equations lines chosen places columns free x₀ r₀ j₀ a₀ w₀ n r
     × (length x ≡ length x₀)
     × (length r ≡ length r₀)
     × (length j ≡ length j₀)
-    × (length a ≡ length a₀)
+    × (length h ≡ length h₀)
     × (length w ≡ length w₀)
     × (length xn ≡ 80)
     × (length rn ≡ 80)
 
 abbrev μ-loop : tie.MeasureT-loop
-μ-loop equations lines chosen places columns free x₀ r₀ j₀ a₀ w₀ n rows xn₀ rn₀ f₀ counter₀ x r j a w xn rn f counter =
+μ-loop equations lines chosen places columns free x₀ r₀ j₀ h₀ w₀ n rows xn₀ rn₀ f₀ counter₀ x r j h w xn rn f counter =
     200 - counter
 
 -- a turn: the problem that the parameters pose, its Jacobian, where the fit stands, and the rooms of its trials
@@ -79,7 +79,7 @@ all-tries-requires c κs =
     let l = c .before .before .before .before .before .before .before .before .before .before .before .before .before in
     let s = began l in (
       reshaped (s .args .equations) (s .args .chosen .now) (s .args .free .now) (s .args .j .now) (s .args .r .now) (d .jacobian .last .1 .1 .1 .1 .1 .1 .1 .0) (l .loop .r) (s .pre .0) (d .jacobian .kept .1 .1 .1 .1 .1 .1 .1 .0 ∙ l .loop .inv .7) (l .loop .inv .6),
-      squared (s .args .r .now) (s .args .a .now) (s .args .w .now) (l .loop .r) (l .loop .a) (l .loop .w) (s .pre .1) (l .loop .inv .6) (l .loop .inv .8) (l .loop .inv .9),
+      matched (s .args .r .now) (s .args .h .now) (s .args .w .now) (l .loop .r) (l .loop .h) (l .loop .w) (s .pre .1) (l .loop .inv .6) (l .loop .inv .8) (l .loop .inv .9),
       record {
         trial-long = sym (front (length (s .args .x .now)) (l .loop .xn) (xn-room l)) ∙ sym (l .loop .inv .5);
         values-long = sym (front (length (s .args .r .now)) (l .loop .rn) (rn-room l)) ∙ sym (l .loop .inv .6);
@@ -117,8 +117,8 @@ module _ (k : tie.After-all-tries Inv-loop μ-loop) where
   j-kept : length (k .before .before .before .before .before .before .before .before .before .before .jacobian .last .1 .1 .1 .1 .1 .1 .1 .0) ≡ length (began turn .args .j .now)
   j-kept = k .before .before .before .before .before .before .before .before .before .before .jacobian .kept .1 .1 .1 .1 .1 .1 .1 .0 ∙ turn .loop .inv .7
 
-  a-kept : length (k .all-tries .last .1 .1 .1 .1 .1 .1 .1 .1 .0) ≡ length (began turn .args .a .now)
-  a-kept = k .all-tries .kept .1 .1 .1 .1 .1 .1 .1 .1 .0 ∙ turn .loop .inv .8
+  h-kept : length (k .all-tries .last .1 .1 .1 .1 .1 .1 .1 .1 .0) ≡ length (began turn .args .h .now)
+  h-kept = k .all-tries .kept .1 .1 .1 .1 .1 .1 .1 .1 .0 ∙ turn .loop .inv .8
 
   w-kept : length (k .all-tries .last .1 .1 .1 .1 .1 .1 .1 .1 .1 .0) ≡ length (began turn .args .w .now)
   w-kept = k .all-tries .kept .1 .1 .1 .1 .1 .1 .1 .1 .1 .0 ∙ turn .loop .inv .9
@@ -139,7 +139,7 @@ same-length-3 : tie.Need-same-length-3 Inv-loop μ-loop
 same-length-3 c = j-kept (c .before .before .before .before .before .before .before .before .before .before .before .before .before .before .before)
 
 same-length-4 : tie.Need-same-length-4 Inv-loop μ-loop
-same-length-4 c = a-kept (c .before .before .before .before .before .before .before .before .before .before .before .before .before .before .before)
+same-length-4 c = h-kept (c .before .before .before .before .before .before .before .before .before .before .before .before .before .before .before)
 
 same-length-5 : tie.Need-same-length-5 Inv-loop μ-loop
 same-length-5 c = w-kept (c .before .before .before .before .before .before .before .before .before .before .before .before .before .before .before)
@@ -179,7 +179,7 @@ loop-again c =
       x-kept k,
       r-kept k,
       j-kept k,
-      a-kept k,
+      h-kept k,
       w-kept k,
       xn-kept k,
       rn-kept k,

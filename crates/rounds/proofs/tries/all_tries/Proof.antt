@@ -1,4 +1,4 @@
-use Prim.Native.Nat.{_+_, _-_, _*_, _≤_}
+use Prim.Native.Nat.{_+_, _-_, _≤_}
 use mathlib.Core.Bool.{false}
 use mathlib.Core.List.{List}
 use mathlib.Core.Path.{_≡_, refl, sym, ap, _∙_}
@@ -8,6 +8,10 @@ use lib.Ieee.{Float}
 use lib.ListN.{length}
 use borrow.Author.Needs.{needs}
 use borrow.Author.Tests.{not-true, not-false}
+use Rattle.normal.specs.Half.{triangle, spreadOf}
+use Rattle.normal.specs.Normal.{dampedOf}
+use Rattle.solver.specs.Promise.{Finds}
+use Rattle.solver.specs.declared.Elimination.{Elimination}
 use Rattle.rounds.specs.Inside.{begunFit, harderFit, triesAt}
 use Rattle.rounds.specs.Problem.{rowCount, problemOf, stateOf, triedOf}
 use Rattle.rounds.specs.Solve.{Problem, State, Tried, tryOf, triesOf}
@@ -18,11 +22,11 @@ use Rattle.rounds.proofs.tries.all_tries.Statement.{statement}
 use Rattle.rounds.proofs.tries.all_tries.Tie as tie
 
 abbrev Inv-loop : tie.InvT-loop
-Inv-loop equations lines chosen places free j x₀ r₀ a w₀ xn₀ rn₀ rows m f₀ counter₀ x r w xn rn f counter =
+Inv-loop equations lines chosen places free j x₀ r₀ h w₀ xn₀ rn₀ rows m f₀ counter₀ x r w xn rn f counter =
     (counter ≤ 12)
     × (f .tries ≤ f₀ .tries + counter)
-    × (triesOf (problemOf equations lines places chosen free (rowCount equations chosen)) j a m (12 - counter) (stateOf x r f)
-    ≡ triesOf (problemOf equations lines places chosen free (rowCount equations chosen)) j a m 12 (stateOf x₀ r₀ f₀))
+    × (triesOf (problemOf equations lines places chosen free (rowCount equations chosen)) j (spreadOf (length r₀) h) m (12 - counter) (stateOf x r f)
+    ≡ triesOf (problemOf equations lines places chosen free (rowCount equations chosen)) j (spreadOf (length r₀) h) m 12 (stateOf x₀ r₀ f₀))
     × (length x ≡ length x₀)
     × (length r ≡ length r₀)
     × (length w ≡ length w₀)
@@ -30,7 +34,7 @@ Inv-loop equations lines chosen places free j x₀ r₀ a w₀ xn₀ rn₀ rows 
     × (length rn ≡ length rn₀)
 
 abbrev μ-loop : tie.MeasureT-loop
-μ-loop equations lines chosen places free j x₀ r₀ a w₀ xn₀ rn₀ rows m f₀ counter₀ x r w xn rn f counter =
+μ-loop equations lines chosen places free j x₀ r₀ h w₀ xn₀ rn₀ rows m f₀ counter₀ x r w xn rn f counter =
     12 - counter
 
 -- a turn: the problem that the parameters pose, the product, and where the fit stands
@@ -44,8 +48,11 @@ module _ (l : tie.At-loop Inv-loop μ-loop) where
   abbrev jacobian : List Float
   jacobian = began .args .j .now
 
+  abbrev half : List Float
+  half = l .before .before .before .before .before .before .before .product .last .1 .0
+
   abbrev product : List Float
-  product = l .before .before .before .before .before .before .before .product .last .1 .0
+  product = spreadOf (length (began .args .r .now)) half
 
   abbrev top : Float
   top = l .before .before .largest .result
@@ -59,8 +66,13 @@ module _ (l : tie.At-loop Inv-loop μ-loop) where
   few : length (l .loop .r) ≤ 80
   few = rw (l .loop .inv .4) (began .pre .0 .few)
 
-  square : length product ≡ length (l .loop .r) * length (l .loop .r)
-  square = rw (l .loop .inv .4) (l .before .before .before .before .before .before .before .product .kept .1 .0 ∙ began .pre .1 .product-long)
+  half-long : length half ≡ triangle (length (l .loop .r))
+  half-long = rw (l .loop .inv .4) (l .before .before .before .before .before .before .before .product .kept .1 .0 ∙ began .pre .1 .half-long)
+
+  -- every try has as many residuals as the first
+  found-at : (m mu : Float) (y : List Float) (e : Elimination) → Finds (length (l .loop .r)) (dampedOf (length (l .loop .r)) mu m (spreadOf (length (l .loop .r)) half)) (l .loop .r) y e
+      → Finds (length (l .loop .r)) (dampedOf (length (l .loop .r)) mu m product) (l .loop .r) y e
+  found-at m mu y e f = rw (← l .loop .inv .4) f
 
   bound : l .loop .f .tries ≤ 2412
   bound =
@@ -73,9 +85,12 @@ module _ (l : tie.At-loop Inv-loop μ-loop) where
   whole T e =
       let d = l .before .before .before in
       let p = l .before .before .before .before .before .before .before in
-      let ea = product-found (length (began .args .r .now)) (length (began .args .free .now)) jacobian (began .args .a .now) product (p .product .result) (began .pre .0 .few) (began .pre .0 .narrow)
-      (began .pre .0 .jacobian-long) (began .pre .1 .product-long) (p .product .ensures) in
-      let em = diagonal-found (length (began .args .r .now)) product (d .diag-max .result) top (began .pre .0 .few) (p .product .kept .1 .0 ∙ began .pre .1 .product-long) (d .diag-max .ensures) (l .before .before .largest .ensures) in
+      let rows = length (began .args .r .now) in
+      let nf = length (began .args .free .now) in
+      let h = began .args .h .now in
+      let ea = product-found rows nf jacobian h half (began .pre .0 .few) (began .pre .0 .narrow) (began .pre .0 .jacobian-long) (began .pre .1 .half-long) (p .product .result) (p .product .ensures) in
+      let em = diagonal-found rows nf jacobian h half (began .pre .0 .few) (began .pre .0 .narrow) (began .pre .0 .jacobian-long) (began .pre .1 .half-long) (p .product .result) (p .product .ensures)
+      (d .diag-max .result) top (p .product .kept .1 .0) (d .diag-max .ensures) (l .before .before .largest .ensures) in
       tries-are posed jacobian product top (length (began .args .r .now)) (began .args .x .now) (began .args .r .now) (l .before .begun .result) (began .args .fit) T (began .pre .0 .counted) ea em (l .before .begun .ensures) e
 
 loop-holds : tie.Need-loop-holds Inv-loop μ-loop
@@ -86,7 +101,7 @@ eliminated-requires c κs =
     let l = c .before .before .before .before .before in
     let s = began l in (
       few l,
-      rw (square l) (le-refl _),
+      rw (half-long l) (le-refl _),
       rw (l .loop .inv .5 ∙ s .pre .1 .work-long, l .loop .inv .4) (le-refl _),
       l .loop .inv .7 ∙ s .pre .2 .values-long ∙ sym (l .loop .inv .4),
     )
@@ -106,7 +121,7 @@ loop-again c =
     let e = c .before .before .before .before .before .before .before .before in
     let t = c .before .before .before .before .before .before .before .before .before .before .before .before .before in
     let l = c .before .before .before .before .before .before .before .before .before .before .before .before .before .before in
-    let none = no-trial (posed l) (jacobian l) (product l) (l .loop .x) (l .loop .r) (e .eliminated .last .1 .1 .1 .0) (top l) (l .loop .f .mu) (e .eliminated .result) (length (l .loop .r)) (count l) (e .eliminated .ensures) (square l) (stands l) (sym (i .before .is-some .ensures) ∙ not-true _ (i .if1 .taken)) in (
+    let none = no-trial (posed l) (jacobian l) (product l) (l .loop .x) (l .loop .r) (e .eliminated .last .1 .1 .1 .0) (top l) (l .loop .f .mu) (e .eliminated .result) (length (l .loop .r)) (count l) (found-at l (top l) (l .loop .f .mu) (e .eliminated .last .1 .1 .1 .0) (e .eliminated .result) (e .eliminated .ensures)) (stands l) (sym (i .before .is-some .ensures) ∙ not-true _ (i .if1 .taken)) in (
       omega (arith, t .loop-test .taken),
       rw (c .harder .ensures) (omega (arith, l .loop .inv .1)),
       tries-next (posed l) (jacobian l) (product l) (top l) (l .loop .counter) (stands l) (l .loop .x) (l .loop .r) (record { improved = false; fit = c .harder .result }) _ (t .loop-test .taken)
@@ -153,7 +168,7 @@ module _ (o : tie.After-one-try Inv-loop μ-loop) where
   made =
       let e = o .before .before .before .before .before .before .before .before .before .before .before in
       let some = a-trial (posed turn) (jacobian turn) (product turn) (turn .loop .x) (turn .loop .r) (e .eliminated .last .1 .1 .1 .0) (top turn) (turn .loop .f .mu) (e .eliminated .result) (length (turn .loop .r)) (count turn)
-      (e .eliminated .ensures) (square turn) (sym (o .before .before .before .before .before .before .is-some .ensures) ∙ not-false _ (o .before .before .before .before .before .if1 .left)) in
+      (found-at turn (top turn) (turn .loop .f .mu) (e .eliminated .last .1 .1 .1 .0) (e .eliminated .result) (e .eliminated .ensures)) (sym (o .before .before .before .before .before .before .is-some .ensures) ∙ not-false _ (o .before .before .before .before .before .if1 .left)) in
       a-try (posed turn) (jacobian turn) (product turn) (top turn) (turn .loop .x) (turn .loop .r) (turn .loop .f) _ x-next r-next (o .one-try .result) some (o .one-try .ensures)
 
   x-kept : length x-next ≡ length (began turn .args .x .now)

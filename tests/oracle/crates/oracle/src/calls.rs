@@ -12,7 +12,7 @@ const MAX_ELIMINATION: usize = 80;
 const MAX_MATRIX_ROWS: usize = 64;
 const MAX_MATRIX_COLUMNS: usize = 80;
 /// The f64 that each of the three work areas must hold.
-const AREA: usize = 8_192;
+const AREA: usize = 6_400;
 /// What the lent places of a `lent` call hold before it.
 const LENT: f64 = 7.0;
 /// The whole reply where the Rust's answer hangs on the sign that the processor gives a NaN.

@@ -39,7 +39,7 @@ fn dispatch(words: &[&str]) -> Outcome {
         ["figures", "calls"] => figures::of_calls(input, output)?,
         ["find", ending, seed, count] => figures::find(output, ending, seed.parse()?, count.parse()?)?,
         ["record", "jobs", file, seed, extra @ ..] => record::jobs(output, file.as_ref(), seed.parse()?, extra)?,
-        ["record", "calls", file, seed] => record::calls(output, file.as_ref(), seed.parse()?)?,
+        ["record", "calls", file, seed, extra @ ..] => record::calls(output, file.as_ref(), seed.parse()?, extra)?,
         ["sketches", seed, count] => writeln!(output, "{} sketches answered alike", sketches::agree(seed.parse()?, count.parse()?)?)?,
         ["time", "job", runs] => time::job(output, &read_all(input)?, runs.parse()?)?,
         ["time", "calls", runs] => time::calls(output, runs.parse()?)?,

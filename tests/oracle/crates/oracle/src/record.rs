@@ -40,8 +40,14 @@ pub fn jobs(output: &mut impl Write, path: &Path, seed: u64, extra: &[&str]) -> 
     write(output, path, jobs.iter().zip(replies))
 }
 
-pub fn calls(output: &mut impl Write, path: &Path, seed: u64) -> Result<(), Box<dyn Error>> {
-    let calls = chosen_calls(seed)?;
+/// `extra` are files with calls that are always taken.
+pub fn calls(output: &mut impl Write, path: &Path, seed: u64, extra: &[&str]) -> Result<(), Box<dyn Error>> {
+    let mut calls = chosen_calls(seed)?;
+    for path in extra {
+        let text = fs::read(path)?;
+        let reply = calls::answer(&text)?;
+        calls.push((text, reply));
+    }
     write(output, path, calls.iter().map(|(text, reply)| (text, reply.clone())))
 }
 

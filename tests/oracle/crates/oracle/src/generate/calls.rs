@@ -333,6 +333,6 @@ fn on_build(rng: &mut Rng) -> String {
 /// The lengths of the output and of three work areas, at their bounds and off them.
 fn lent(rng: &mut Rng, needed: usize) -> String {
     let out = (needed + rng.pick(&[0, 0, 1, 5])).saturating_sub(rng.pick(&[0, 0, 0, 1]));
-    let areas: Vec<String> = (0..3).map(|_| rng.pick(&[8192, 8192, 8192, 8192, 8193, 9000, 8191, 0]).to_string()).collect();
+    let areas: Vec<String> = (0..3).map(|_| rng.pick(&[6400, 6400, 6400, 8192, 6401, 9000, 6399, 0]).to_string()).collect();
     format!("{out} {}", areas.join(" "))
 }

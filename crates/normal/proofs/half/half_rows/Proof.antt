@@ -5,16 +5,16 @@ use borrow.Author.Needs.{needs}
 use lib.ListN.{length}
 use Rattle.loops.specs.Turns.{upTo}
 use Rattle.loops.proofs.Turning.{upTo-next, upTo-done}
-use Rattle.normal.specs.Normal.{pairsOf}
-use Rattle.normal.proofs.pairs.all_pairs.Statement.{statement}
-use Rattle.normal.proofs.pairs.all_pairs.Tie as tie
+use Rattle.normal.specs.Inside.{putRow}
+use Rattle.normal.proofs.half.half_rows.Statement.{statement}
+use Rattle.normal.proofs.half.half_rows.Tie as tie
 
 abbrev Inv-loop : tie.InvT-loop
-Inv-loop j a₀ rows nf i₀ a i =
-    (i ≤ rows) × (length a ≡ length a₀) × (upTo rows i (pairsOf rows nf j) a ≡ upTo rows 0 (pairsOf rows nf j) a₀)
+Inv-loop j h₀ rows nf i₀ h i =
+    (i ≤ rows) × (length h ≡ length h₀) × (upTo rows i (putRow nf j) h ≡ upTo rows 0 (putRow nf j) h₀)
 
 abbrev μ-loop : tie.MeasureT-loop
-μ-loop j a₀ rows nf i₀ a i = rows - i
+μ-loop j h₀ rows nf i₀ h i = rows - i
 
 loop-holds : tie.Need-loop-holds Inv-loop μ-loop
 loop-holds c = (search needs, refl, refl)
@@ -25,8 +25,8 @@ loop-again c = (search needs, search needs, search (upTo-next, needs))
 returns : tie.Need-returns Inv-loop μ-loop
 returns c = search (upTo-done, needs)
 
-pub all-pairs-spec : {M : Type 1} → statement M
-all-pairs-spec =
+pub half-rows-spec : {M : Type 1} → statement M
+half-rows-spec =
     tie.close
     (tie.spec
     Inv-loop

@@ -7,8 +7,8 @@ use Rattle.loops.proofs.Cells.{cells}
 use Rattle.loops.specs.Turns.{upTo}
 use Rattle.loops.proofs.Turning.{upTo-next, upTo-done}
 use Rattle.normal.specs.Normal.{addProduct, rowsProduct}
-use Rattle.normal.proofs.pairs.rows_product.Statement.{statement}
-use Rattle.normal.proofs.pairs.rows_product.Tie as tie
+use Rattle.normal.proofs.half.rows_product.Statement.{statement}
+use Rattle.normal.proofs.half.rows_product.Tie as tie
 
 abbrev Inv-loop : tie.InvT-loop
 Inv-loop j rows nf i k p q s₀ c₀ s c =
