@@ -22,7 +22,8 @@ pub enum Reply {
 pub struct Fitted {
     /// In how many ways the drawing can still move: 0 where the equations determine it.
     pub freedom: usize,
-    /// The largest residual of all equations at the fit, in units of the job's size.
+    /// How far `points` miss an equation at most, in units of the job's size: the largest residual of all equations at the points as they are
+    /// handed out, infinite where one cannot be worked out there. Never a NaN.
     pub worst: f64,
     /// The groups: points that equations tie to each other, each by its own fit.
     pub groups: Vec<Group>,

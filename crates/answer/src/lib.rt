@@ -23,6 +23,7 @@ pub struct Answer {
     pub group_count: usize,
     // The total over the build.
     pub freedom: usize,
+    // The largest residual magnitude at the points that are handed out, and no NaN; +0.0 unless there was a fit.
     pub worst: f64,
     pub groups: [GroupFit; 40],
     // Whether equation k is a suspect.

@@ -18,15 +18,14 @@ use Rattle.fit.proofs.Begun.{begun, fewer}
 use Rattle.members.specs.declared.Equations.{Equations}
 use Rattle.rounds.specs.Promise.{Solves, outcomeOf, answeredBy, coordinatesOf, zeroed, saying, tooMany}
 use Rattle.normal.specs.Half.{triangle}
-use Rattle.rounds.specs.Problem.{rowCount, valuesAt}
+use Rattle.rounds.specs.Problem.{rowCount}
 use Rattle.rounds.specs.Solve.{Outcome, converged, failed}
 use Rattle.rounds.specs.declared.FitEnding.the-variants.{TooShort}
 use Rattle.rounds.specs.declared.Solved.{Solved}
 use Rattle.sketch.specs.declared.Active.{Active}
 use Rattle.sketch.specs.declared.Build.{Build}
 use Rattle.sketch.specs.declared.Line.{Line}
-use Rattle.solver.specs.Sums.{maxAbsOf}
-use Rattle.fit.specs.Fits.{outcomeIn, worstOf}
+use Rattle.fit.specs.Fits.{outcomeIn}
 use Rattle.fit.specs.Inside.{shownOf}
 use Rattle.fit.specs.Promise.{FitsChosen, fittedBy, refusal, short, fitMeaning, fitMeant}
 use Rattle.fit.specs.Frames.{startIn}
@@ -109,8 +108,3 @@ module _ (b : Build) (f : Frame) (chosen : Equations) (p q r p′ q′ r′ x x�
             product = area-q (b .equations) (b .lines) (f .places) (f .columns) (numbersOf (chosen .0)) (indicesOf (f .free)) (startIn b f) p q r x′ p′ q′ r′ s few narrow long e;
             copy = area-r (b .equations) (b .lines) (f .places) (f .columns) (numbersOf (chosen .0)) (indicesOf (f .free)) (startIn b f) p q r x′ p′ q′ r′ s few narrow long e;
           }
-
-pub worst-is : (b : Build) (f : Frame) (x : List Float) (chosen : List ℕ) (r : List Float) (m : Float) → chosen ≡ numbersOf (f .equations .0)
-    → r ≡ valuesAt (b .equations) (b .lines) (f .places) chosen x → m ≡ maxAbsOf r → m ≡ worstOf b f x
-unfolding worstOf
-worst-is b f x chosen r m c e h = h ∙ rw (e, c)

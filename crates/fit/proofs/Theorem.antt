@@ -41,8 +41,7 @@ use Rattle.sketch.specs.declared.Build.{Build}
 use Rattle.sketch.specs.declared.Equation.{Equation}
 use Rattle.sketch.specs.declared.Line.{Line}
 use Rattle.sketch.specs.declared.PointNo.{PointNo}
-use Rattle.solver.specs.Sums.{maxAbsOf}
-use Rattle.fit.specs.Fits.{outcomeIn, worstOf, gradientsOf, freedomOf, converges, suspect, mark, suspectsOf}
+use Rattle.fit.specs.Fits.{outcomeIn, gradientsOf, freedomOf, converges, suspect, mark, suspectsOf}
 use Rattle.fit.specs.Frames.{frameOf, startIn}
 use Rattle.fit.specs.Groups.{lowestOf, freedomIn, frameIn}
 use Rattle.fit.specs.Own.{pointsOfGroup, equationsOfGroup, SharesGroup, FitsAlike}
@@ -127,12 +126,15 @@ module _ {b b′ : Build} {chosen : List ℕ} (a : AgreeOn b b′ chosen) where
   count-on = fold-on chosen 0 (λ n k m. ap (λ e. n + rowsOf e) (a .equations k m))
 
   module _ (places : List ℕ) (x : List Float) where
-    rows-for : rowsFor (b .equations) (b .lines) places chosen x ≡ rowsFor (b′ .equations) (b′ .lines) places chosen x
-    unfolding rowsFor rowsAt
-    rows-for =
+    rows-at : (k : ℕ) → List·Memᴰ k chosen → rowsAt (b .equations) (b .lines) places x k ≡ rowsAt (b′ .equations) (b′ .lines) places x k
+    unfolding rowsAt
+    rows-at k m =
         let at = atOf places x in
-        flatMap-on chosen
-        (λ k m. rows-on (b .lines) (b′ .lines) at (equationAt (b .equations) k) (a .lines k m) ∙ ap (rowsOfEquation (b′ .lines) at) (a .equations k m))
+        rows-on (b .lines) (b′ .lines) at (equationAt (b .equations) k) (a .lines k m) ∙ ap (rowsOfEquation (b′ .lines) at) (a .equations k m)
+
+    rows-for : rowsFor (b .equations) (b .lines) places chosen x ≡ rowsFor (b′ .equations) (b′ .lines) places chosen x
+    unfolding rowsFor
+    rows-for = flatMap-on chosen rows-at
 
     values-on : valuesAt (b .equations) (b .lines) places chosen x ≡ valuesAt (b′ .equations) (b′ .lines) places chosen x
     unfolding valuesAt
@@ -159,10 +161,6 @@ module _ {b b′ : Build} (f : Frame) where
     freedom-on x =
         let n = length (indicesOf (f .free)) in
         ap₂ (λ rows j. cond (ltb 64 rows) 0 (n - rankOf (decomposedOf rows n j))) (count-on a) (jacobian-on a (f .places) x (f .columns) n)
-
-    worst-on : (x : List Float) → worstOf b f x ≡ worstOf b′ f x
-    unfolding worstOf
-    worst-on x = ap maxAbsOf (values-on a (f .places) x)
 
     suspects-on : startIn b f ≡ startIn b′ f → suspectsOf b f ≡ suspectsOf b′ f
     unfolding suspectsOf mark suspect
@@ -204,7 +202,7 @@ module _ {b b′ : Build} {g g′ : ℕ} (s : SharesGroup b b′ g g′) where
       record {
         fit = outcome-on f start-same agree-listed ∙ ap (λ f′. outcomeIn b′ f′ (numbersOf (f′ .equations .0))) frames-same;
         freedom = λ x. freedom-on f agree-listed x ∙ ap (λ f′. freedomIn b′ f′ x) frames-same;
-        worst = λ x. worst-on f agree-listed x ∙ ap (λ f′. worstOf b′ f′ x) frames-same;
+        residuals = λ x k m. ap (map (λ (row : Row). row .value)) (rows-at agree (f .places) x k m) ∙ ap (λ (f′ : Frame). map (λ (row : Row). row .value) (rowsAt (b′ .equations) (b′ .lines) (f′ .places) x k)) frames-same;
         suspects = suspects-on f agree-listed start-same ∙ ap (suspectsOf b′) frames-same;
         lowest = ap lowestOf frames-same;
       }

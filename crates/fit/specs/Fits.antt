@@ -9,21 +9,16 @@ use Rattle.members.specs.Lists.{numbersOf, withoutOf}
 use Rattle.members.specs.Movable.{indicesOf}
 use Rattle.nullspace.specs.Promise.{decomposedOf}
 use Rattle.nullspace.specs.Steps.{rankOf}
-use Rattle.rounds.specs.Problem.{rowCount, valuesAt, jacobianAt}
+use Rattle.rounds.specs.Problem.{rowCount, jacobianAt}
 use Rattle.rounds.specs.Promise.{outcomeOf}
 use Rattle.rounds.specs.Solve.{Outcome, converged, failed}
 use Rattle.sketch.specs.declared.Build.{Build}
-use Rattle.solver.specs.Sums.{maxAbsOf}
 use Rattle.fit.specs.Frames.{startIn}
 use Rattle.fit.specs.declared.Frame.{Frame}
 
 -- `fit`, with the equations of these numbers
 abbrev pub outcomeIn : Build → Frame → List ℕ → Outcome
 outcomeIn b f chosen = outcomeOf (b .equations) (b .lines) (f .places) (f .columns) chosen (indicesOf (f .free)) (startIn b f)
-
--- the largest residual magnitude at x
-unfoldable pub worstOf : Build → Frame → List Float → Float
-worstOf b f x = maxAbsOf (valuesAt (b .equations) (b .lines) (f .places) (numbersOf (f .equations .0)) x)
 
 -- `freedom`, its number: free coordinates minus rank, at x
 unfoldable pub gradientsOf : Build → Frame → List Float → List Float

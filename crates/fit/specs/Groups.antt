@@ -1,5 +1,5 @@
--- What a group of a build comes to, each given the whole build, its groups and the group's number: its fit, freedom, worst, suspects and
--- lowest point. What a job hands out is made of these (crates/job/specs/Groups.antt), and of these demand 3 says that they depend on the
+-- What a group of a build comes to, each given the whole build, its groups and the group's number: its fit, freedom, suspects, lowest
+-- point and residuals. What a job hands out is made of these (crates/job/specs/Groups.antt), and of these demand 3 says that they depend on the
 -- group's own part of the build alone (Own.antt).
 use Prim.Native.Nat.{ℕ, _<_}
 use mathlib.Core.Bool.{Bool, true, false, cond}
@@ -8,6 +8,7 @@ use mathlib.Core.Logic.{_↔_}
 use mathlib.Core.Path.{_≡_}
 use lib.Ieee.{Float}
 use lib.ListN.{length, getD}
+use Rattle.floats.specs.Largest.{AllWithin}
 use Rattle.floats.specs.Ops.{1e-12}
 use Rattle.groups.specs.Chains.{equationsIn, Lowest}
 use Rattle.groups.specs.declared.Grouping.{Grouping}
@@ -20,8 +21,7 @@ use Rattle.rounds.specs.declared.Reason.{Reason}
 use Rattle.rows.specs.Column.{rowsAt}
 use Rattle.rows.specs.Entries.{Row}
 use Rattle.sketch.specs.declared.Build.{Build}
-use Rattle.solver.specs.Sums.{AllWithin}
-use Rattle.fit.specs.Fits.{outcomeIn, worstOf, freedomOf, converges, suspectsOf}
+use Rattle.fit.specs.Fits.{outcomeIn, freedomOf, converges, suspectsOf}
 use Rattle.fit.specs.Promise.{frameOverRows}
 use Rattle.fit.specs.Frames.{frameOf, startIn}
 use Rattle.fit.specs.declared.Frame.{Frame}
@@ -70,9 +70,6 @@ module _ (b : Build) (gr : Grouping) (g : ℕ) where
   -- at given coordinates
   abbrev pub freedomAt : List Float → ℕ
   freedomAt x = freedomIn b frameIn x
-
-  abbrev pub worstAt : List Float → Float
-  worstAt x = worstOf b frameIn x
 
   abbrev pub suspectsAt : List Bool
   suspectsAt = suspectsOf b frameIn

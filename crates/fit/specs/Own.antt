@@ -13,7 +13,7 @@ use Rattle.rows.specs.Column.{equationAt}
 use Rattle.sketch.specs.Involved.{lineAt, linesNamed}
 use Rattle.sketch.specs.declared.Build.{Build}
 use Rattle.sketch.specs.declared.LineNo.{LineNo}
-use Rattle.fit.specs.Groups.{outcomeAt, freedomAt, worstAt, suspectsAt, lowestAt}
+use Rattle.fit.specs.Groups.{outcomeAt, freedomAt, residualsAt, suspectsAt, lowestAt}
 
 -- ---- a group of a build
 
@@ -45,6 +45,7 @@ pub record FitsAlike (b b′ : Build) (g g′ : ℕ) : Type 0 where
   pub fit : outcomeAt b (groupingOf b) g ≡ outcomeAt b′ (groupingOf b′) g′
   -- at whatever coordinates, so at those of the fit
   pub freedom : (x : List Float) → freedomAt b (groupingOf b) g x ≡ freedomAt b′ (groupingOf b′) g′ x
-  pub worst : (x : List Float) → worstAt b (groupingOf b) g x ≡ worstAt b′ (groupingOf b′) g′ x
+  pub residuals : (x : List Float) (k : ℕ) → List·Memᴰ k (equationsOfGroup b g)
+      → residualsAt b (groupingOf b) g x k ≡ residualsAt b′ (groupingOf b′) g′ x k
   pub suspects : suspectsAt b (groupingOf b) g ≡ suspectsAt b′ (groupingOf b′) g′
   pub lowest : lowestAt b (groupingOf b) g ≡ lowestAt b′ (groupingOf b′) g′

@@ -6,6 +6,7 @@ use mathlib.Core.List.{List, [], _∷_}
 use mathlib.Core.Path.{_≡_, refl}
 use lib.Ieee.{Float, nan, inf, ofBits, binary64}
 use lib.ListN.{replicate}
+use Rattle.floats.specs.Largest.{largerAbs, maxAbsOf}
 use Rattle.floats.specs.Ops.{zero⁺, zero⁻, one, two}
 use Rattle.groups.specs.Chains.{pointsIn, equationsIn}
 use Rattle.groups.specs.Examples as groups-worked
@@ -25,7 +26,6 @@ use Rattle.sketch.specs.declared.State.{State}
 use Rattle.sketch.specs.declared.State.the-variants.{Free, Kept}
 use Rattle.solver.specs.Examples.{worked}
 use Rattle.solver.specs.Steps.{solutionOf}
-use Rattle.solver.specs.Sums.{largerAbs, maxAbsOf}
 
 abbrev coincident : ℕ → ℕ → Active
 coincident p q = record { equation = Equation.Coincident (record { 0 = p }) (record { 0 = q }) }

@@ -1,6 +1,5 @@
-// The fit of a frame with some of its equations, and the residuals there.
+// The fit of a frame with some of its equations.
 ghost use mathlib.Core.Path.{_≡_};
-ghost use Rattle.fit.specs.Fits.{worstOf};
 ghost use Rattle.fit.specs.Inside.{shownOf};
 ghost use Rattle.fit.specs.Promise.{FitsChosen};
 use crate::Fitted;
@@ -66,19 +65,4 @@ pub fn fit(
     };
     let s = rounds::solve(posed, &mut x[..n], p, q, r);
     shown(s, x)
-}
-
-// The largest residual magnitude at x, infinite where one is not finite.
-pub fn worst(b: Build, f: Frame, x: &[f64]) -> f64
-    ensures { λ m. ⌜ m ≡ worstOf b f (now (x .entry)) ⌝ }
-{
-    let listed = f.equations.0;
-    let items = listed.items;
-    let k = smaller(listed.count, 40);
-    let places = f.places;
-    let equations = b.equations;
-    let lines = b.lines;
-    let mut r = [0.0; 80];
-    let n = rows::residuals(equations, lines, &items[..k], &places, x, &mut r);
-    solver::max_abs(&r[..n])
 }

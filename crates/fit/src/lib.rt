@@ -6,7 +6,6 @@ mod marks;
 mod ranks;
 
 pub use fits::fit;
-pub use fits::worst;
 pub use frames::set_out;
 pub use marks::suspects;
 use members::Coordinates;

@@ -2,3 +2,4 @@ pub mod Only
 pub mod Ops
 pub mod Magnitude
 pub mod Lists
+pub mod Largest

@@ -3,6 +3,7 @@ ghost use mathlib.Core.Path.{_≡_};
 ghost use lib.ListN.{length, getD, set, replicate};
 ghost use lib.Ieee.{nan};
 ghost use lib.Ieee.Scale.{finite};
+ghost use Rattle.floats.specs.Largest.{largerAbs, maxAbsOf};
 ghost use Rattle.floats.specs.Lists.{copiedOf, swapAt};
 ghost use Rattle.floats.specs.Magnitude.{absOf, magnitudeOf, maxOf};
 ghost use Rattle.floats.specs.Ops.{zero⁺};
@@ -38,6 +39,28 @@ pub fn max(a: f64, b: f64) -> f64
     } else {
         a
     }
+}
+
+// The larger of m and the magnitude of a, and infinite where a is not finite.
+pub fn larger_abs(m: f64, a: f64) -> f64
+    ensures { λ r. ⌜ r ≡ largerAbs m a ⌝ }
+{
+    if is_finite(a) {
+        max(m, abs(a))
+    } else {
+        1.0 / 0.0
+    }
+}
+
+// The largest magnitude, and infinite where a number is not finite.
+pub fn max_abs(v: &[f64]) -> f64
+    ensures { λ r. ⌜ r ≡ maxAbsOf (now (v .entry)) ⌝ }
+{
+    let mut m = 0.0;
+    for i in 0..v.len() {
+        m = larger_abs(m, v[i]);
+    }
+    m
 }
 
 // The place of x in the order of magnitudes.

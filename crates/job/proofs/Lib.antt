@@ -10,7 +10,7 @@
 --     Rowed      no group of a build that passes has more than 64 rows
 --     Theorem    each number exactly when its row says
 --     Sentences  what a user would say of a job
---     Measured   measures are taken from what is handed out
+--     Measured   measures and worst are taken from what is handed out
 pub mod Laying
 pub mod Refusing
 pub mod Freeing

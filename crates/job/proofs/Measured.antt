@@ -1,5 +1,5 @@
--- `measures-as-handed-out` (specs/Sentences.antt): the points of a job keep their length through fits, places and levels, so that they are
--- the head of the output, and the measures behind them are taken at them. Assumes nothing.
+-- `measures-as-handed-out` and `worst-as-handed-out` (specs/Sentences.antt): the points of a job keep their length through fits, places and
+-- levels, so that they are the head of the output; the measures behind them are taken at them, and so is worst. Assumes nothing.
 use Prim.Native.Nat.{ℕ, zero, suc, _+_, _*_, _≤_, min}
 use mathlib.Core.Bool.{Bool, false, true≢false}
 use mathlib.Core.List.{List}
@@ -8,7 +8,8 @@ use native.Mathlib.Nat.{min-eq-left}
 use native.Mathlib.Omega.{arith}
 use lib.Ieee.{Float, nan}
 use lib.Dec.{ltb}
-use lib.ListN.{length, getD, set, replicate, length-take, length-set, length-replicate}
+use lib.ListN.{length, getD, set, take, replicate, length-take, length-set, length-replicate}
+use lib.Seq.{take-at}
 use Rattle.fit.specs.Groups.{frameIn, outcomeAt}
 use Rattle.fit.specs.declared.Frame.{Frame}
 use Rattle.floats.specs.Ops.{zero⁺}
@@ -24,6 +25,8 @@ use Rattle.members.specs.Lists.{numbersOf}
 use Rattle.members.specs.Movable.{nowhere}
 use Rattle.members.specs.Scale.{backTo, coordinatesAt, putPoint, unscaleTo, unscaleAt, unscaleOf}
 use Rattle.plane.specs.declared.Vec2.{Vec2}
+use Rattle.plate.proofs.Describes.{describes}
+use Rattle.plate.specs.Worst.{worstOf}
 use Rattle.rounds.specs.Solve.{Outcome, converged, failed}
 use Rattle.sketch.proofs.Within.{within}
 use Rattle.sketch.specs.Check.{overBound, outOfBounds, refersToNothing, overRows}
@@ -37,8 +40,8 @@ use Rattle.sketch.specs.declared.State.{State}
 use Rattle.sketch.specs.declared.State.the-variants.{Free, Kept, Placed}
 use Rattle.job.specs.Groups.{Result, fits, fails, takenOf, groupsFrom, begin, fitOf}
 use Rattle.job.specs.Points.{drawnAt, drawn, placeState, placeAt, placedIn, levelled, handedOut}
-use Rattle.job.specs.Promise.{noRoom, unfit, verdict, outputAfter}
-use Rattle.job.specs.Sentences.{MeasuresAsHandedOut}
+use Rattle.job.specs.Promise.{noRoom, numberIn, unfit, verdict, answerAfter, outputAfter}
+use Rattle.job.specs.Sentences.{MeasuresAsHandedOut, WorstAsHandedOut}
 use Rattle.job.specs.declared.Doing.{Doing}
 use Rattle.job.proofs.Sentences.{verdict-passes}
 use Rattle.job.proofs.Theorem.{none-left, goes-on, stops, noughth, given-exactly}
@@ -96,6 +99,20 @@ level-sized b points =
     let n = min (b .«point_count») 40 in
     sized length (levelAxis fixed (equationsOf b) n) 2 (axis-sized fixed (equationsOf b) n) points
 
+-- 40 points in, as many as the build counts out
+pub levelled-long : (b : Build) (points : List Float) → length points ≡ 80 → b .«point_count» ≤ 40 → length (levelled b points) ≡ 2 * b .«point_count»
+unfolding levelled
+levelled-long b points long few =
+    level-sized b _
+    ∙ length-take (2 * b .«point_count») (placedIn (b .points) points)
+    ∙ rw (placed-sized (b .points) points, long) (min-eq-left (omega arith))
+
+-- they are the head of what is handed out
+pub handed-points : (b : Build) (points out : List Float) → length points ≡ 80 → b .«point_count» ≤ 40
+    → take (2 * b .«point_count») (handedOut b points out) ≡ levelled b points
+unfolding handedOut
+handed-points b points out long few = take-at (levelled b points) _ (2 * b .«point_count») (levelled-long b points long few)
+
 abbrev pointCount : Result → ℕ
 pointCount (fits d) = length (d .points)
 pointCount (fails g u) = 0
@@ -127,22 +144,42 @@ module _ (b : Build) where
   unfolding fitOf
   points-sized d h = groups-sized b (groupingOf b) _ 0 (begin b) d h ∙ begin-sized b
 
-  levelled-sized : (d : Doing) → fitOf b ≡ fits d → b .«point_count» ≤ 40 → length (levelled b (d .points)) ≡ 2 * b .«point_count»
-  unfolding levelled
-  levelled-sized d h few =
-      level-sized b _
-      ∙ length-take (2 * b .«point_count») (placedIn (b .points) (d .points))
-      ∙ rw (placed-sized (b .points) (d .points), points-sized d h) (min-eq-left (omega arith))
-
   output-is : (d : Doing) (v : Checked) (out : List Float) → v ≡ Passes → fitOf b ≡ fits d → outputAfter b out v ≡ handedOut b (d .points) out
   output-is d v out e h = rw (e, h)
+
+  worst-is : (d : Doing) (v : Checked) → v ≡ Passes → fitOf b ≡ fits d → answerAfter b v .worst ≡ worstOf b (levelled b (d .points))
+  worst-is d v e h = rw (e, h)
+
+  -- a job that ends in 0 has fitted, from 40 points
+  record Went (out p q r : List Float) : Type 0 where
+    doing : Doing
+    fit : fitOf b ≡ fits doing
+    passes : verdict b out p q r ≡ Passes
+    few : b .«point_count» ≤ 40
+
+  went : (out p q r : List Float) → numberIn b (length out) (length p) (length q) (length r) ≡ 0 → Went out p q r
+  went out p q r h =
+      let s = given-exactly b (length out) (length p) (length q) (length r) .fitted .0 h .0 in
+      let f = fit-of (fitOf b) (noughth (overBound b) (noRoom b (length out) (length p) (length q) (length r)) (outOfBounds b) (refersToNothing b) (overRows b) (unfit (fitOf b)) .0 h .5) in
+      record { doing = f .0; fit = f .1; passes = verdict-passes b (length out) (length p) (length q) (length r) s; few = within b (s .counts) .0 }
 
   pub measures-as-handed-out : MeasuresAsHandedOut b
   unfolding handedOut
   measures-as-handed-out out p q r h =
-      let s = given-exactly b (length out) (length p) (length q) (length r) .fitted .0 h .0 in
-      let f = fit-of (fitOf b) (noughth (overBound b) (noRoom b (length out) (length p) (length q) (length r)) (outOfBounds b) (refersToNothing b) (overRows b) (unfit (fitOf b)) .0 h .5) in (
-        levelled b (f .0 .points),
-        levelled-sized (f .0) (f .1) (within b (s .counts) .0),
-        output-is (f .0) (verdict b out p q r) out (verdict-passes b (length out) (length p) (length q) (length r) s) (f .1),
+      let w = went out p q r h in
+      let d = w .doing in (
+        levelled b (d .points),
+        levelled-long b (d .points) (points-sized d (w .fit)) (w .few),
+        output-is d (verdict b out p q r) out (w .passes) (w .fit),
       )
+
+  pub worst-as-handed-out : WorstAsHandedOut b
+  worst-as-handed-out out p q r h points rest long o =
+      let w = went out p q r h in
+      let d = w .doing in
+      let v = verdict b out p q r in
+      let n = 2 * b .«point_count» in
+      let same : points ≡ levelled b (d .points) =
+      sym (take-at points rest n long) ∙ ap (take n) (sym o ∙ output-is d v out (w .passes) (w .fit)) ∙ handed-points b (d .points) out (points-sized d (w .fit)) (w .few) in
+      let worst : answerAfter b v .worst ≡ worstOf b points = worst-is d v (w .passes) (w .fit) ∙ ap (worstOf b) (sym same) in
+      (worst, rw worst (describes b points))

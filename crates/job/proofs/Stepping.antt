@@ -7,12 +7,11 @@ use native.Mathlib.Omega.{arith}
 use lib.Ieee.{Float}
 use lib.ListN.{length, set}
 use Rattle.answer.specs.declared.GroupFit.{GroupFit}
-use Rattle.fit.specs.Fits.{outcomeIn, worstOf}
+use Rattle.fit.specs.Fits.{outcomeIn}
 use Rattle.fit.specs.Promise.{FitsChosen, short, fittedBy}
 use Rattle.fit.specs.Frames.{frameOf, startIn}
 use Rattle.fit.specs.declared.Fitted.{Fitted}
 use Rattle.fit.specs.declared.Frame.{Frame}
-use Rattle.floats.specs.Magnitude.{maxOf}
 use Rattle.fit.specs.Groups.{lowestOf, freedomIn}
 use Rattle.groups.specs.declared.Grouping.{Grouping}
 use Rattle.members.specs.Lists.{numbersOf}
@@ -26,12 +25,12 @@ use Rattle.job.specs.declared.Went.{Went}
 
 -- ---- what is taken over from a fit
 
-pub taken-is : (b : Build) (f : Frame) (g : ℕ) (x : List Float) (i t : ℕ) (d : Doing) (points : List Float) (n low : ℕ) (w m : Float) → n ≡ freedomIn b f x
-    → w ≡ worstOf b f x → points ≡ unscaleOf (b .points) (b .centre) (b .size) (numbersOf (f .points .0)) x (d .points) → low ≡ lowestOf f → m ≡ maxOf (d .worst) w
-    → record { points = points; freedom = d .freedom + n; worst = m; groups = set (d .groups) g (record { lowest = low; freedom = n; iterations = i; tries = t; code = 0; column = 0 }) }
+pub taken-is : (b : Build) (f : Frame) (g : ℕ) (x : List Float) (i t : ℕ) (d : Doing) (points : List Float) (n low : ℕ) → n ≡ freedomIn b f x
+    → points ≡ unscaleOf (b .points) (b .centre) (b .size) (numbersOf (f .points .0)) x (d .points) → low ≡ lowestOf f
+    → record { points = points; freedom = d .freedom + n; groups = set (d .groups) g (record { lowest = low; freedom = n; iterations = i; tries = t; code = 0; column = 0 }) }
     ≡ takenOf b f g x i t d
 unfolding takenOf
-taken-is b f g x i t d points n low w m en ew ep el em = rw (ep, em, ew, el, en)
+taken-is b f g x i t d points n low en ep el = rw (ep, el, en)
 
 -- ---- one group
 

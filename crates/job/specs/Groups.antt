@@ -1,5 +1,6 @@
 -- lib.rs, `solve_group` and the loop of `solve` over the groups, over the whole build: each group is fitted by itself, in rising
--- order, until one does not converge. The fit, freedom, worst, suspects and lowest point of a group are the room `fit`'s.
+-- order, until one does not converge. The fit, freedom, suspects and lowest point of a group are the room `fit`'s, and the
+-- residuals at the points that are handed out the room `plate`'s.
 use Prim.Native.Nat.{ℕ, zero, suc, _+_, _*_, min}
 use mathlib.Core.Bool.{Bool, cond, not, _&&_}
 use mathlib.Core.List.{List}
@@ -9,27 +10,25 @@ use lib.ListN.{length, getD, set, replicate}
 use Rattle.answer.specs.Endings.{blankGroup, failedOf, fittedOf}
 use Rattle.answer.specs.declared.Answer.{Answer}
 use Rattle.answer.specs.declared.GroupFit.{GroupFit}
-use Rattle.fit.specs.Fits.{worstOf}
 use Rattle.fit.specs.Promise.{padded}
 use Rattle.fit.specs.Frames.{startIn}
 use Rattle.fit.specs.Groups.{lowestOf, freedomIn, frameIn, outcomeAt, suspectsAt}
 use Rattle.fit.specs.declared.Frame.{Frame}
 use Rattle.fit.specs.declared.Degrees.{Degrees}
-use Rattle.floats.specs.Magnitude.{maxOf}
-use Rattle.floats.specs.Ops.{zero⁺}
 use Rattle.groups.specs.Listed.{groupingOf}
 use Rattle.groups.specs.declared.Grouping.{Grouping}
 use Rattle.loops.specs.Turns.{upTo}
 use Rattle.members.specs.Lists.{numbersOf}
 use Rattle.members.specs.Movable.{fixedOf, nowhere}
 use Rattle.members.specs.Scale.{unscaleOf}
+use Rattle.plate.specs.Worst.{worstOf}
 use Rattle.rounds.specs.Reasons.{codeOf, namedColumn, codeIn, namedColumnIn}
 use Rattle.rounds.specs.Solve.{Outcome, converged, failed}
 use Rattle.rounds.specs.declared.Reason.{Reason}
 use Rattle.rounds.specs.declared.Solved.{Solved}
 use Rattle.sketch.specs.declared.Build.{Build}
 use Rattle.sketch.specs.declared.Point.{Point}
-use Rattle.job.specs.Points.{drawn, handedOut}
+use Rattle.job.specs.Points.{drawn, levelled, handedOut}
 use Rattle.job.specs.declared.Doing.{Doing}
 use Rattle.job.specs.declared.Went.{Went}
 
@@ -57,7 +56,6 @@ unfoldable pub takenOf : Build → Frame → ℕ → List Float → ℕ → ℕ 
 takenOf b f g x i t d = record {
   points = unscaleOf (b .points) (b .centre) (b .size) (numbersOf (f .points .0)) x (d .points);
   freedom = d .freedom + freedomIn b f x;
-  worst = maxOf (d .worst) (worstOf b f x);
   groups = set (d .groups) g (record { lowest = lowestOf f; freedom = freedomIn b f x; iterations = i; tries = t; code = 0; column = 0 });
 }
 
@@ -106,7 +104,7 @@ module _ (b : Build) (gr : Grouping) where
   looseCount = looseOf (b .points) (gr .«of_point») (b .«point_count»)
 
   abbrev pub answerBy : Result → Answer
-  answerBy (fits d) = fittedOf groupCount (d .groups) (d .freedom + 2 * looseCount) (d .worst)
+  answerBy (fits d) = fittedOf groupCount (d .groups) (d .freedom + 2 * looseCount) (worstOf b (levelled b (d .points)))
   answerBy (fails g u) = failedOf u (suspectsAt b gr g)
 
   abbrev pub outputBy : Result → List Float → List Float
@@ -115,7 +113,7 @@ module _ (b : Build) (gr : Grouping) where
 
 -- before the first group
 unfoldable pub begin : Build → Doing
-begin b = record { points = drawn (b .points); freedom = 0; worst = zero⁺; groups = replicate 40 blankGroup }
+begin b = record { points = drawn (b .points); freedom = 0; groups = replicate 40 blankGroup }
 
 -- what the groups of a build come to
 unfoldable pub fitOf : Build → Result

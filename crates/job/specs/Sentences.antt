@@ -10,17 +10,18 @@ use Rattle.answer.specs.Endings.{failedOf}
 use Rattle.answer.specs.declared.Answer.{Answer}
 use Rattle.fit.specs.Fits.{converges}
 use Rattle.fit.specs.Groups.{outcomeAt, ReasonAt, TellsAt, outcomeWithout, residualsAt}
+use Rattle.floats.specs.Largest.{AllWithin}
 use Rattle.floats.specs.Ops.{1e-12}
 use Rattle.groups.specs.Chains.{Touches, equationsIn, Lowest}
 use Rattle.groups.specs.Listed.{groupingOf}
 use Rattle.groups.specs.Touches.{touchedBy}
 use Rattle.measures.specs.Gauges.{gaugedOf}
+use Rattle.plate.specs.Worst.{worstOf, Describes}
 use Rattle.rounds.specs.Promise.{zeroed}
 use Rattle.rounds.specs.Reasons.{codeOf, namedColumn}
 use Rattle.rounds.specs.Solve.{converged, failed}
 use Rattle.rounds.specs.declared.Reason.{Reason}
 use Rattle.sketch.specs.declared.Build.{Build}
-use Rattle.solver.specs.Sums.{AllWithin}
 use Rattle.job.specs.Given.{fitsAt}
 use Rattle.job.specs.Promise.{numberIn, verdictOf, verdict, answerAfter, outputAfter, areaAfter}
 
@@ -52,6 +53,13 @@ MeasuresAsHandedOut b = (out p q r : List Float) → numberIn b (length out) (le
     → (points : List Float)
     × (length points ≡ 2 * b .«point_count»)
     × (outputAfter b out (verdict b out p q r) ≡ points ++ (gaugedOf b points ++ drop (2 * b .«point_count» + b .«measure_count») out))
+
+-- worst describes the plate: after 0 the answer's worst is the largest residual magnitude of all equations at the points that the output
+-- begins with, placed and levelled (crates/plate/specs/Worst.antt); it goes by no fit, and may be more or less than at the fit, or infinite
+abbrev pub WorstAsHandedOut : Build → Type 0
+WorstAsHandedOut b = (out p q r : List Float) → numberIn b (length out) (length p) (length q) (length r) ≡ 0
+    → (points rest : List Float) → length points ≡ 2 * b .«point_count» → outputAfter b out (verdict b out p q r) ≡ points ++ rest
+    → (answerAfter b (verdict b out p q r) .worst ≡ worstOf b points) × Describes b points (answerAfter b (verdict b out p q r) .worst)
 
 -- 7 names the lowest group that does not converge: the answer has its lowest point, the iterations and tries of its own fit with all its
 -- equations, and why that failed, by document 02's code and column; what the reason says holds (`reason`), and the column is 0 exactly when

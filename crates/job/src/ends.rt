@@ -27,7 +27,10 @@ fn fitted(b: Build, gr: Grouping, d: Doing, out: &mut [f64]) -> Answer
     let groups = d.groups;
     hand_out(b, points, out);
     let freedom = d.freedom + 2 * loose(b, gr);
-    answer::fitted(smaller(gr.count, 40), groups, freedom, d.worst)
+    // The plate is cut from the points that are handed out, so its worst is taken there.
+    let n = 2 * b.point_count;
+    let worst = plate::worst(b, &out[..n]);
+    answer::fitted(smaller(gr.count, 40), groups, freedom, worst)
 }
 
 // Group g does not converge, and this is answered of it.

@@ -41,7 +41,6 @@ fn taken(
     let x = t.x;
     let s = t.solved;
     let freedom = freedom_at(b, f, &x, p, q, r);
-    let worst = fit::worst(b, f, &x);
     let all = b.points;
     let centre = b.centre;
     let listed = f.points;
@@ -59,7 +58,6 @@ fn taken(
     Doing {
         points,
         freedom: d.freedom + freedom,
-        worst: floats::max(d.worst, worst),
         groups,
     }
 }

@@ -12,11 +12,10 @@ use answer::GroupFit;
 pub use ends::solve;
 
 // The groups fitted so far: the points, x, y, x, y, .., of which those of later groups stand where they were drawn, the sum of the
-// freedoms, the largest residual magnitude, and a line for each group.
+// freedoms, and a line for each group.
 pub(crate) struct Doing {
     pub(crate) points: [f64; 80],
     pub(crate) freedom: usize,
-    pub(crate) worst: f64,
     pub(crate) groups: [GroupFit; 40],
 }
 

@@ -19,7 +19,6 @@ fn begun(b: Build) -> Doing
     Doing {
         points: starts(points),
         freedom: 0,
-        worst: 0.0,
         groups: [blank; 40],
     }
 }

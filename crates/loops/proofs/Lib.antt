@@ -6,6 +6,7 @@
 --     Parts     a part of a slice that is lent and comes back
 --     Turning   the laws of a loop's turns and of its end
 --     Both      two loops side by side
+--     Flat      a list for each element of a list, one after another
 pub mod Keeps
 pub mod Writes
 pub mod Picks
@@ -13,3 +14,4 @@ pub mod Cells
 pub mod Parts
 pub mod Turning
 pub mod Both
+pub mod Flat

@@ -11,7 +11,7 @@ use native.Mathlib.Numerals.{add-one}
 use native.Mathlib.Omega.{arith}
 use lib.ListN.{length, getD, drop, drop-of-length-le}
 use lib.Seq.{drop-cons}
-use Rattle.loops.specs.Turns.{Try, after, tried, turns, upTo, downTo, tries, tryTo, whiles, whileTo, fold, every, go, stop}
+use Rattle.loops.specs.Turns.{Try, after, turns, upTo, downTo, tries, tryTo, whiles, whileTo, fold, every, go, stop}
 
 -- how many turns are left: one more than after this one
 left-next : (hi i : ℕ) → i < hi → hi - i ≡ suc (hi - (i + 1))
@@ -72,32 +72,6 @@ module _ {S T : Type 0} (φ : T → S) (j : ℕ) (f : ℕ → S → S) (g : ℕ 
   pub upTo-part : (hi i : ℕ) (t : T) → upTo (j + hi) (j + i) f (φ t) ≡ φ (upTo hi i g t)
   unfolding upTo
   upTo-part hi i t = let e : (j + hi) - (j + i) ≡ hi - i = omega arith in rw e (turns-part (hi - i) i t)
-
-module _ {S : Type 0} (f : ℕ → S → Try S) where
-  tries-next : (k n i : ℕ) (s s′ : S) → n ≡ suc k → f i s ≡ go s′ → tries n i f s ≡ tries k (i + 1) f s′
-  unfolding tries
-  tries-next k n i s s′ e g = rw (e, g)
-
-  tries-stop : (k n i : ℕ) (s : S) → n ≡ suc k → f i s ≡ stop → tries n i f s ≡ stop
-  unfolding tries
-  tries-stop k n i s e g = rw (e, g)
-
-  tries-done : (n i : ℕ) (s : S) → n ≡ 0 → tries n i f s ≡ go s
-  unfolding tries
-  tries-done n i s e = rw e
-
-  -- the turn is a function that answers b and leaves the state s′
-  pub tryTo-next : (hi i : ℕ) (b : Bool) (s s′ : S) (R : Try S) → i < hi → tried b s′ ≡ f i s → b ≡ true → tryTo hi i f s ≡ R → tryTo hi (i + 1) f s′ ≡ R
-  unfolding tryTo
-  tryTo-next hi i b s s′ R h e t r = sym (tries-next (hi - (i + 1)) (hi - i) i s s′ (left-next hi i h) (sym (rw t at e))) ∙ r
-
-  pub tryTo-stop : (hi i : ℕ) (b : Bool) (s s′ t : S) (R : Try S) → i < hi → tried b s′ ≡ f i s → b ≡ false → tryTo hi i f s ≡ R → tried false t ≡ R
-  unfolding tryTo
-  tryTo-stop hi i b s s′ t R h e q r = sym (tries-stop (hi - (i + 1)) (hi - i) i s (left-next hi i h) (sym (rw q at e))) ∙ r
-
-  pub tryTo-done : (hi i : ℕ) (s : S) (R : Try S) → hi ≤ i → tryTo hi i f s ≡ R → tried true s ≡ R
-  unfolding tryTo
-  tryTo-done hi i s R h r = sym (tries-done (hi - i) i s (left-done hi i h)) ∙ r
 
 -- the turns from 0 on: none, all of them, and one more
 module _ {S : Type 0} (f : ℕ → S → Try S) where

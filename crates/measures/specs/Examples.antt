@@ -6,6 +6,7 @@ use mathlib.Core.Path.{_≡_, refl}
 use lib.Ieee.{Float, binary64, ofBits, add, sub, mul, div, neg}
 use Rattle.floats.specs.Ops.{one, one⁻, two}
 use Rattle.loops.specs.Turns.{turns, upTo}
+use Rattle.plate.specs.Scale.{scaleAt, allScaledOf, selfAt}
 use Rattle.rows.specs.Kinds.{rowsOfEquation, axisDistanceOf}
 use Rattle.rows.specs.Located.{atOf}
 use Rattle.sketch.specs.Blank.{blankPoint, sample}
@@ -13,7 +14,6 @@ use Rattle.sketch.specs.declared.Build.{Build}
 use Rattle.sketch.specs.declared.Measure.{Measure}
 use Rattle.sketch.specs.declared.Measured.{Measured}
 use Rattle.measures.specs.Gauges.{gaugeOf, gaugedOf, measuredIn}
-use Rattle.measures.specs.Scale.{scaleAt, allScaledOf, selfAt}
 
 abbrev along : ℕ → Float → Measured
 along axis side = record { measure = Measure.AxisDistance (record { 0 = 0 }) (record { 0 = 1 }) axis side }

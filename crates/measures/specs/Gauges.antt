@@ -1,10 +1,11 @@
 -- equations.rs, `measures`: the reference dimensions at given points.
-use Prim.Native.Nat.{ℕ, min}
+use Prim.Native.Nat.{ℕ}
 use mathlib.Core.List.{List, map}
 use lib.Ieee.{Float}
-use lib.ListN.{getD, take}
+use lib.ListN.{getD}
 use Rattle.floats.specs.Lists.{copiedOf}
 use Rattle.floats.specs.Ops.{_⊗_, zero⁺}
+use Rattle.plate.specs.Scale.{placesIn, coordinatesIn}
 use Rattle.rows.specs.Entries.{noRow}
 use Rattle.rows.specs.Kinds.{rowsOfEquation}
 use Rattle.rows.specs.Located.{atOf}
@@ -14,7 +15,6 @@ use Rattle.sketch.specs.declared.Equation.{Equation}
 use Rattle.sketch.specs.declared.Line.{Line}
 use Rattle.sketch.specs.declared.Measure.{Measure}
 use Rattle.sketch.specs.declared.Measured.{Measured}
-use Rattle.measures.specs.Scale.{allScaledOf, inOrder}
 
 -- "Each measure is its dimension's equation with the value 0."
 abbrev pub equationOf : Measure → Equation
@@ -28,12 +28,9 @@ equationOf (Measure.Radius c f) = Equation.Radius c f zero⁺
 unfoldable pub gaugeOf : List Line → List ℕ → List Float → Float → Measured → Float
 gaugeOf ls places x size m = getD (rowsOfEquation ls (atOf places x) (equationOf (m .measure))) 0 noRow .value ⊗ size
 
--- The measures of a build at its points. Of points there are as many as the build counts, and at most 40; a point number past them
--- is point 0's, as in the Rust's `local`.
+-- The measures of a build at its points, which stand where the room `plate` has them, each at (coordinate − centre) / size.
 unfoldable pub gaugedOf : Build → List Float → List Float
-gaugedOf b points =
-    let n = min (b .«point_count») 40 in
-    map (gaugeOf (b .lines) (take n inOrder) (allScaledOf (b .centre) (b .size) n points) (b .size)) (measuresOf b)
+gaugedOf b points = map (gaugeOf (b .lines) (placesIn b) (coordinatesIn b points) (b .size)) (measuresOf b)
 
 -- they go to the head of out, as many as there is room for
 unfoldable pub measuredIn : Build → List Float → List Float → List Float

@@ -4,9 +4,9 @@ ghost use mathlib.Core.Path.{_≡_};
 ghost use lib.ListN.{take};
 ghost use Rattle.floats.specs.Lists.{copiedOf};
 ghost use Rattle.measures.specs.Gauges.{equationOf, gaugeOf, measuredIn};
-use crate::scale::in_order;
-use crate::scale::scaled;
 use loops::smaller;
+use plate::in_order;
+use plate::scaled;
 use sketch::Build;
 use sketch::Equation;
 use sketch::Line;
@@ -63,7 +63,7 @@ pub fn measures(b: Build, points: &[f64], out: &mut [f64])
 {
     let n = smaller(b.point_count, 40);
     let centre = b.centre;
-    let x = scaled(centre, b.size, points, n);
+    let x = scaled(centre, b.size, points, b.point_count);
     let places = in_order();
     let all = b.measures;
     let lines = b.lines;

@@ -6,8 +6,9 @@ use mathlib.Core.List.{List, [], _∷_, _++_}
 use lib.Dec.{ltb, leb}
 use lib.Ieee.{Float, nan, eq}
 use lib.ListN.{length, getD, drop, set}
-use Rattle.floats.specs.Ops.{_⊕_, _⊖_, _⊗_, _⊘_, zero⁺}
+use Rattle.floats.specs.Ops.{_⊕_, _⊖_, _⊗_, zero⁺}
 use Rattle.loops.specs.Turns.{upTo}
+use Rattle.plane.specs.Vectors.{inUnits}
 use Rattle.plane.specs.declared.Vec2.{Vec2}
 use Rattle.sketch.specs.declared.Point.{Point}
 use Rattle.sketch.specs.declared.State.{State}
@@ -19,10 +20,6 @@ abbrev pub standing : State → Vec2 → Vec2
 standing Free start = start
 standing Kept start = start
 standing (Placed at) start = at
-
--- q in units of size from the centre
-abbrev pub inUnits : Vec2 → Float → Vec2 → Vec2
-inUnits centre size q = record { x = (q .x ⊖ centre .x) ⊘ size; y = (q .y ⊖ centre .y) ⊘ size }
 
 abbrev pub scaledOf : Vec2 → Float → Point → Vec2
 scaledOf centre size p = inUnits centre size (standing (p .state) (p .start))

@@ -5,12 +5,13 @@ ghost use Prim.Native.Nat.{_*_, _≤_, _<_};
 ghost use lib.ListN.{length, drop, take};
 ghost use Rattle.members.specs.Lists.{numbersOf};
 ghost use Rattle.members.specs.Movable.{pointsAt};
-ghost use Rattle.members.specs.Scale.{standing, inUnits, scaledOf, startOf, startIn, moveBy, moved, backTo, unscaleOne, unscaleOf};
+ghost use Rattle.members.specs.Scale.{standing, scaledOf, startOf, startIn, moveBy, moved, backTo, unscaleOne, unscaleOf};
 use crate::Listed;
 use crate::Points;
 use crate::movable::known;
 use loops::smaller;
 use plane::Vec2;
+use plane::in_units;
 use sketch::Point;
 use sketch::State;
 
@@ -21,15 +22,6 @@ fn stands(state: State, start: Vec2) -> Vec2
         State::Free => start,
         State::Kept => start,
         State::Placed(at) => at,
-    }
-}
-
-fn in_units(centre: Vec2, size: f64, q: Vec2) -> Vec2
-    ensures { λ r. ⌜ r ≡ inUnits centre size q ⌝ }
-{
-    Vec2 {
-        x: (q.x - centre.x) / size,
-        y: (q.y - centre.y) / size,
     }
 }
 

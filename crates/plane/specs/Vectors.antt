@@ -35,3 +35,7 @@ lessAlong w gw k len = record { x = (gw .x ⊖ w .x ⊗ k) ⊘ len; y = (gw .y �
 
 unfoldable pub acrossOf : Vec2 → Vec2 → Float → Vec2
 acrossOf w gw len = lessAlong w gw (dotOf gw w) len
+
+-- equations.rs, `scaled` and `measures`: q in units of size from the centre
+abbrev pub inUnits : Vec2 → Float → Vec2 → Vec2
+inUnits centre size q = record { x = (q .x ⊖ centre .x) ⊘ size; y = (q .y ⊖ centre .y) ⊘ size }

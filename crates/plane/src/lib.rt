@@ -1,7 +1,7 @@
 // Points, vectors and directions of the plane, by value, as the last lines of equations.rs have them. Nothing is refused:
 // a zero length gives NaN or infinite directions.
 ghost use mathlib.Core.Path.{_≡_};
-ghost use Rattle.plane.specs.Vectors.{subOf, negOf, dotOf, crossOf, normOf, unitFromOf, acrossOf};
+ghost use Rattle.plane.specs.Vectors.{subOf, negOf, dotOf, crossOf, normOf, unitFromOf, acrossOf, inUnits};
 
 pub struct Vec2 {
     pub x: f64,
@@ -71,5 +71,15 @@ pub fn across(w: Vec2, gw: Vec2, len: f64) -> Vec2
     Vec2 {
         x: (gw.x - w.x * k) / len,
         y: (gw.y - w.y * k) / len,
+    }
+}
+
+// q in units of size from the centre: one difference and one quotient for each coordinate.
+pub fn in_units(centre: Vec2, size: f64, q: Vec2) -> Vec2
+    ensures { λ r. ⌜ r ≡ inUnits centre size q ⌝ }
+{
+    Vec2 {
+        x: (q.x - centre.x) / size,
+        y: (q.y - centre.y) / size,
     }
 }

@@ -3,6 +3,7 @@ ghost use mathlib.Core.Path.{_≡_};
 ghost use Rattle.groups.specs.Listed.{groupingOf};
 ghost use Rattle.level.specs.Level.{levelOf};
 ghost use Rattle.measures.specs.Gauges.{measuredIn};
+ghost use Rattle.plate.specs.Worst.{worstOf};
 ghost use Rattle.text.specs.Reader.{readOf};
 ghost use Rattle.text.specs.declared.Outcome.the-variants.{Read};
 ghost use Rattle.rooms_c.specs.Jobs.{laidOver, Grouped, SolvesBy, SolvesText};
@@ -52,6 +53,16 @@ pub extern "C" fn rooms_measures(text: &[u8], points: &[f64], out: &mut [f64])
     let reading = text::read(text);
     let b = reading.build;
     measures::measures(b, points, out);
+}
+
+// `plate::worst`
+#[no_mangle]
+pub extern "C" fn rooms_worst(text: &[u8], points: &[f64]) -> f64
+    ensures { λ r. ⌜ r ≡ worstOf (readOf (now (text .entry)) .build) (now (points .entry)) ⌝ }
+{
+    let reading = text::read(text);
+    let b = reading.build;
+    plate::worst(b, points)
 }
 
 fn solved(b: Build, out: &mut [f64], p: &mut [f64], q: &mut [f64], r: &mut [f64]) -> usize

@@ -1,6 +1,7 @@
 // `solver` and `nullspace`: bare matrices and lists.
 ghost use mathlib.Core.Path.{_≡_};
-ghost use Rattle.solver.specs.Sums.{maxAbsOf, norm2Of};
+ghost use Rattle.floats.specs.Largest.{maxAbsOf};
+ghost use Rattle.solver.specs.Sums.{norm2Of};
 ghost use Rattle.rooms_c.specs.Code.{SolvesC, SpansC, Named, solvedCode, rankCode};
 use nullspace::NullSpace;
 use solver::Elimination;
@@ -30,7 +31,7 @@ fn code(e: Elimination) -> usize
 pub extern "C" fn rooms_max_abs(v: &[f64]) -> f64
     ensures { λ r. ⌜ r ≡ maxAbsOf (now (v .entry)) ⌝ }
 {
-    solver::max_abs(v)
+    floats::max_abs(v)
 }
 
 #[no_mangle]

@@ -13,7 +13,7 @@ use lib.Seq.{set-append-left, set-at, drop-drop}
 use Rattle.floats.specs.Ops.{_⊕_, zero⁺}
 use Rattle.loops.proofs.Parts.{get-past, set-past}
 use Rattle.loops.specs.Turns.{fold, upTo, turns}
-use Rattle.loops.proofs.Turning.{fold-append}
+use Rattle.loops.proofs.Flat.{fold-parts}
 use Rattle.rows.specs.Column.{Laid, laid, nextValue, rowsAt, valuesNext, columnOf, equationAt}
 use Rattle.slopes.specs.Dense.{nextRow, freeOf, addAt, addEntry, clearAt, clearedOf, rowInto, rowsNext, jacobianOf}
 use Rattle.rows.specs.Entries.{Row}
@@ -27,14 +27,6 @@ use Rattle.sketch.specs.declared.Active.{Active}
 use Rattle.sketch.specs.declared.FreeNo.{FreeNo}
 use Rattle.sketch.specs.declared.Line.{Line}
 use Rattle.rounds.specs.Problem.{moreRows, rowCount, denseRow, rowsFor, valuesAt, jacobianAt}
-
--- ---- a fold over parts is a fold over the whole
-
-module _ {A S K : Type 0} (f : S → A → S) (g : K → List A) (h : S → K → S) (turn : (s : S) (k : K) → h s k ≡ fold f s (g k)) where
-  fold-parts : (ks : List K) (s : S) → fold h s ks ≡ fold f s (flatMap g ks)
-  unfolding fold flatMap
-  fold-parts [] s = refl
-  fold-parts (k ∷ ks) s = fold-parts ks (h s k) ∙ ap (λ t. fold f t (flatMap g ks)) (turn s k) ∙ sym (fold-append f s (g k) (flatMap g ks))
 
 -- ---- how many rows there are
 

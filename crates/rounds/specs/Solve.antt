@@ -7,11 +7,12 @@ use lib.Dec.{eqb}
 use lib.Ieee.{Float, le, lt}
 use lib.Ieee.Scale.{finite}
 use lib.ListN.{length}
+use Rattle.floats.specs.Largest.{maxAbsOf}
 use Rattle.floats.specs.Magnitude.{maxOf}
 use Rattle.floats.specs.Ops.{_⊗_, ten, tenth, 1e-10, 1e-12, 1e-15}
 use Rattle.normal.specs.Normal.{productOf, diagMaxOf, dampedOf, movedOf}
 use Rattle.solver.specs.Reasons.{Reasoned, some, noPivot, notFinite, onSome, reasonedOf}
-use Rattle.solver.specs.Sums.{maxAbsOf, norm2Of}
+use Rattle.solver.specs.Sums.{norm2Of}
 use Rattle.rounds.specs.declared.Reason.{Reason}
 use Rattle.rounds.specs.declared.Reason.the-variants.{NothingFree, NoPivot, NotFinite, NotLess, Spent}
 

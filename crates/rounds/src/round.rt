@@ -17,7 +17,7 @@ use sketch::Line;
 pub(crate) fn within(r: &[f64]) -> bool
     ensures { λ b. ⌜ b ≡ within (now (r .entry)) ⌝ }
 {
-    solver::max_abs(r) <= Fit::TOLERANCE
+    floats::max_abs(r) <= Fit::TOLERANCE
 }
 
 // What a round leads to: the end, or the next round. Within the tolerance it is done if no try was taken or the polishing steps

@@ -4,9 +4,10 @@ use Rattle.fit.proofs.Theorem.{own-part-alone}
 use Rattle.fit.specs.Table.{both-sides}
 use Rattle.grammar.proofs.Theorem.{reads-form, one-reading}
 use Rattle.groups.proofs.Theorem.{groups-are-chains}
-use Rattle.job.proofs.Measured.{measures-as-handed-out}
+use Rattle.job.proofs.Measured.{measures-as-handed-out, worst-as-handed-out}
 use Rattle.job.proofs.Sentences.{areas-after, fitted-means-fitted, failure-named}
 use Rattle.job.proofs.Theorem.{given-exactly, hands-out-nothing}
+use Rattle.plate.proofs.Brought.{brought-back}
 use Rattle.reply.proofs.Printed.{suspects-are}
 use Rattle.root.proofs.Correct.{rounded, rounded-unique}
 use Rattle.sketch.proofs.Looked.{looks-everywhere}
@@ -26,6 +27,8 @@ demands = record {
   suspects = suspects-are;
   fitted = fitted-means-fitted;
   measured = measures-as-handed-out;
+  worst = worst-as-handed-out;
+  brought-back = brought-back;
   root = rounded;
   root-once = rounded-unique;
   groups = groups-are-chains;

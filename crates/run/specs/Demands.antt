@@ -16,7 +16,8 @@ use Rattle.groups.specs.Chains.{GroupsAreChains}
 use Rattle.groups.specs.Listed.{groupingOf}
 use Rattle.groups.specs.Touches.{touchedBy}
 use Rattle.job.specs.Given.{GivenExactly, HandsOutNothing}
-use Rattle.job.specs.Sentences.{FittedMeansFitted, MeasuresAsHandedOut, FailureNamed, AreasAfter}
+use Rattle.job.specs.Sentences.{FittedMeansFitted, MeasuresAsHandedOut, WorstAsHandedOut, FailureNamed, AreasAfter}
+use Rattle.plate.specs.Scale.{BroughtBack}
 use Rattle.reply.specs.Theorems.{SuspectsAre}
 use Rattle.root.specs.Root.{sqrtOf}
 use Rattle.root.specs.Rounded.{Rounded}
@@ -50,6 +51,9 @@ pub record Demands : Type 0 where
   pub fitted : (b : Build) (out p q r : ℕ) → FittedMeansFitted b out p q r
   -- and a measure is taken from the points that are handed out
   pub measured : (b : Build) → MeasuresAsHandedOut b
+  -- and worst tells what all equations come to at these points, each brought back by (coordinate − centre) / size
+  pub worst : (b : Build) → WorstAsHandedOut b
+  pub brought-back : (b : Build) (points : List Float) → BroughtBack b points
   -- ---- 2. the square root is correctly rounded; the rest equals definitions that follow the Rust, which each room's promises are
 
   pub root : (x : Float) → T (positive x) → T (fits binary64 x) → Rounded x (sqrtOf x)

@@ -1,4 +1,3 @@
-pub mod Largest
 pub mod Checking
 pub mod Reasons
 pub mod Lesser

@@ -2,33 +2,12 @@
 ghost use mathlib.Core.Path.{_≡_};
 ghost use Prim.Native.Nat.{_*_};
 ghost use lib.ListN.{length};
-ghost use Rattle.solver.specs.Sums.{largerAbs, maxAbsOf, norm2Of};
+ghost use Rattle.solver.specs.Sums.{norm2Of};
 ghost use Rattle.solver.specs.Promise.{Finds, Solves, isSome};
 
 mod back;
 mod below;
 mod pivot;
-
-// The largest magnitude, and infinite where a number is not finite.
-pub fn max_abs(v: &[f64]) -> f64
-    ensures { λ r. ⌜ r ≡ maxAbsOf (now (v .entry)) ⌝ }
-{
-    let mut m = 0.0;
-    for i in 0..v.len() {
-        m = larger_abs(m, v[i]);
-    }
-    m
-}
-
-fn larger_abs(m: f64, a: f64) -> f64
-    ensures { λ r. ⌜ r ≡ largerAbs m a ⌝ }
-{
-    if floats::is_finite(a) {
-        floats::max(m, floats::abs(a))
-    } else {
-        1.0 / 0.0
-    }
-}
 
 // The sum of the squares.
 pub fn norm2(v: &[f64]) -> f64

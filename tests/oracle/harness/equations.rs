@@ -140,6 +140,17 @@ pub mod harness {
             }
         }
 
+        /// The residuals of all active equations at points that are given as two numbers each, scaled
+        /// as the Rust scales them for its measures.
+        pub fn residuals_at(&self, points: &[f64]) -> Vec<f64> {
+            let eq = &self.equations;
+            let group = Group { points: (0..eq.names.len()).collect(), constraints: (0..eq.active).collect() };
+            let x: Vec<f64> = points.iter().enumerate().map(|(i, v)| (v - eq.centre[i % 2]) / eq.size).collect();
+            let mut r = Vec::new();
+            eq.residuals(&group, &group.constraints, &x, &mut r, None);
+            r
+        }
+
         /// The measures at points that are given as two numbers each.
         pub fn measures(&self, points: &[f64]) -> Vec<f64> {
             self.measures_at(&pairs(points))

@@ -1,17 +1,15 @@
-//! Levelled points and measures. Levelling only copies, so the bits of a NaN are compared too; a measure that is a NaN has the bits of
-//! the one that is handed out.
+//! Levelled points, and the measures and the largest residual at any points. Levelling only copies, so the bits of a NaN are compared too;
+//! a measure that is a NaN has the bits of the one that is handed out, and a residual that is not finite counts as infinity.
 
 use std::process::ExitCode;
 
 use chance::Rng;
-use job::{Build, Field, Kind, MAX_EQUATIONS, MAX_LINES, MAX_MEASURES, MAX_POINTS, MEASURES, Slot, State};
+use job::{Build, EQUATIONS, Field, MAX_EQUATIONS, MAX_LINES, MAX_MEASURES, MAX_POINTS, MEASURES, Slot, State};
 use plain::Rig;
 use rooms::{NAN, Tally, same};
 
 use crate::draw::{self, Reach};
 
-/// Kinds that levelling must not mind.
-const OTHERS: [Kind; 5] = [Kind::Held, Kind::Coincident, Kind::Distance, Kind::AxisDistance, Kind::Length];
 /// Stands in places that nothing may change.
 const UNTOUCHED: f64 = 7.5;
 
@@ -25,13 +23,15 @@ pub fn compare(count: u64, seed: u64) -> ExitCode {
         let (text, rig) = (job::write(&build), Rig::new(&build));
         let mut levelled = points.clone();
         rig.level(&mut levelled);
-        let measured = rig.measures(&levelled);
-        seen.add(&points, &levelled, &measured);
+        let (measured, worst) = (rig.measures(&levelled), plain::bare::max_abs(&rig.residuals_at(&points)));
+        seen.add(&points, &levelled, &measured, worst);
+        tally.note(same(&[rooms::worst(&text, &points)], &[worst]), || format!("build {i}, worst:\n{}", String::from_utf8_lossy(&text)));
         tally.note(points_agree(rng, &text, points, &levelled), || format!("build {i}, points:\n{}", String::from_utf8_lossy(&text)));
         tally.note(measures_agree(rng, &text, &levelled, &measured), || format!("build {i}, measures:\n{}", String::from_utf8_lossy(&text)));
     }
-    let Seen { moved, copied, nans } = seen;
+    let Seen { moved, copied, nans, finite, infinite } = seen;
     println!("{moved} builds in which levelling moves a point, {copied} in which it copies a NaN over other bits; {nans} measures that are a NaN");
+    println!("{finite} builds in which worst is above zero and finite, {infinite} in which it is infinite");
     tally.end()
 }
 
@@ -40,13 +40,17 @@ struct Seen {
     moved: usize,
     copied: usize,
     nans: usize,
+    finite: usize,
+    infinite: usize,
 }
 
 impl Seen {
-    fn add(&mut self, before: &[f64], after: &[f64], measures: &[f64]) {
+    fn add(&mut self, before: &[f64], after: &[f64], measures: &[f64], worst: f64) {
         self.moved += usize::from(!same(before, after));
         self.copied += usize::from(after.iter().zip(before).any(|(a, b)| a.is_nan() && a.to_bits() != b.to_bits()));
         self.nans += measures.iter().filter(|v| v.is_nan()).count();
+        self.finite += usize::from(worst > 0.0 && worst.is_finite());
+        self.infinite += usize::from(worst.is_infinite());
     }
 }
 
@@ -105,7 +109,7 @@ fn build(rng: &mut Rng) -> Build {
     let step = rng.pick(&[n, 1, 2, 6]);
     for _ in 0..rng.between(0, MAX_EQUATIONS) {
         let (a, by) = (rng.below(n), rng.between(1, step));
-        build.equations.push(if rng.chance(0.6) { draw::level(a, (a + by) % n, rng.below(2)) } else { reach.equation(rng, &OTHERS) });
+        build.equations.push(if rng.chance(0.6) { draw::level(a, (a + by) % n, rng.below(2)) } else { reach.equation(rng, &EQUATIONS) });
     }
     for _ in 0..rng.between(0, MAX_MEASURES) {
         let mut measure = reach.equation(rng, &MEASURES);

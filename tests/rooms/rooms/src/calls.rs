@@ -45,6 +45,7 @@ unsafe extern "C" {
     ) -> usize;
     fn rooms_level(text: *const u8, text_len: usize, points: *mut f64, points_len: usize);
     fn rooms_measures(text: *const u8, text_len: usize, points: *const f64, points_len: usize, out: *mut f64, out_len: usize);
+    fn rooms_worst(text: *const u8, text_len: usize, points: *const f64, points_len: usize) -> f64;
     fn rooms_solve(
         text: *const u8,
         text_len: usize,
@@ -186,6 +187,11 @@ pub fn level(text: &[u8], points: &mut [f64]) {
 
 pub fn measures(text: &[u8], points: &[f64], out: &mut [f64]) {
     unsafe { rooms_measures(text.as_ptr(), text.len(), points.as_ptr(), points.len(), out.as_mut_ptr(), out.len()) }
+}
+
+/// The largest residual at the points, each brought to the centre and size of the build.
+pub fn worst(text: &[u8], points: &[f64]) -> f64 {
+    unsafe { rooms_worst(text.as_ptr(), text.len(), points.as_ptr(), points.len()) }
 }
 
 /// The library call itself, on the build of a text: the number that the job ends in.

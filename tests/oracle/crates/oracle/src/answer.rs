@@ -1,5 +1,6 @@
-//! Answers a job. The Rust groups, fits, counts freedom, unscales, levels, measures and names
-//! suspects; the order in which its parts are called is the job's of document 01.
+//! Answers a job. The Rust groups, fits, counts freedom, unscales, levels, measures, works the
+//! residuals at the printed points out and names suspects; the order in which its parts are called
+//! is the job's of document 01.
 
 use job::{Answer, Build, Failure, Fitted, Group, Status};
 use plain::{Rig, Run};
@@ -42,7 +43,7 @@ pub fn unmodified(build: &Build) -> Answer {
 /// Fits every group in order until one fails; with the answer, the fitted coordinates of each
 /// group (none after a failure).
 fn run(rig: &Rig, fit: impl Fn(usize) -> Run, suspects: impl Fn(usize) -> Vec<usize>) -> (Answer, Vec<Vec<f64>>) {
-    let (mut groups, mut fitted, mut worst) = (Vec::new(), Vec::new(), 0.0f64);
+    let (mut groups, mut fitted) = (Vec::new(), Vec::new());
     for group in 0..rig.groups() {
         let lowest = rig.points_of(group)[0];
         let Run { x, iterations, tries, reason, .. } = fit(group);
@@ -50,11 +51,11 @@ fn run(rig: &Rig, fit: impl Fn(usize) -> Run, suspects: impl Fn(usize) -> Vec<us
             let failure = Failure { lowest, iterations, tries, reason, suspects: suspects(group) };
             return (Answer::Failed(failure), Vec::new());
         };
-        worst = worst.max(plain::bare::max_abs(&rig.residuals(group, &x)));
         groups.push(Group { lowest, freedom: rig.freedom(group, &x), iterations, tries });
         fitted.push(x);
     }
     let (points, measures) = rig.finish(&fitted);
+    let worst = plain::bare::max_abs(&rig.residuals_at(points.as_flattened()));
     let freedom = groups.iter().map(|g| g.freedom).sum::<usize>() + 2 * rig.untied();
     (Answer::Fitted(Fitted { freedom, worst, groups, points, measures }), fitted)
 }

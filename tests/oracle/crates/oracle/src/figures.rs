@@ -1,5 +1,5 @@
-//! What a set of jobs or calls holds. Of jobs, tables by class, status, kind, iterations, ending and
-//! reason; it fails unless over half of the sound ones converge after real iterations with every kind
+//! What a set of jobs or calls holds. Of jobs, tables by class, status, kind, iterations, ending,
+//! reason and worst; it fails unless over half of the sound ones converge after real iterations with every kind
 //! among them. Of calls, a table by class and sort of reply.
 
 use std::collections::{BTreeMap, BTreeSet};
@@ -16,6 +16,8 @@ const FAILED: Status = 7;
 const STATUSES: [Status; 8] = [0, 1, 2, 3, 4, 5, 6, 7];
 /// As many rounds as a fit has.
 const ROUNDS: usize = 200;
+/// What a fit lets pass.
+pub const TOLERANCE: f64 = 1e-12;
 
 /// How a group's fit came to its end.
 #[derive(Clone, Copy, Debug, PartialEq, Eq, PartialOrd, Ord)]
@@ -60,11 +62,23 @@ struct Failed {
     columns: BTreeSet<usize>,
 }
 
+/// The largest residual of a fitted job.
+pub struct Worst {
+    /// At the fitted coordinates.
+    pub fit: f64,
+    /// At the printed points.
+    pub printed: f64,
+    /// All of them there.
+    pub rows: Vec<f64>,
+}
+
 /// A job as far as the figures go: its status and its groups' fits up to the first that fails.
 pub struct Seen {
     pub status: Status,
     pub build: Option<Build>,
     pub groups: Vec<(Vec<Kind>, Run)>,
+    /// Where it is fitted.
+    pub worst: Option<Worst>,
 }
 
 impl Seen {
@@ -77,7 +91,7 @@ impl Seen {
 pub fn look(text: &[u8]) -> Seen {
     let build = match job::read(text) {
         Ok(build) => build,
-        Err(status) => return Seen { status, build: None, groups: Vec::new() },
+        Err(status) => return Seen { status, build: None, groups: Vec::new(), worst: None },
     };
     let rig = Rig::new(&build);
     let (mut status, mut groups) = (FITTED, Vec::new());
@@ -92,7 +106,58 @@ pub fn look(text: &[u8]) -> Seen {
             break;
         }
     }
-    Seen { status, build: Some(build), groups }
+    let worst = worst(&rig, &groups);
+    Seen { status, build: Some(build), groups, worst }
+}
+
+/// None where a group's fit failed.
+fn worst(rig: &Rig, groups: &[(Vec<Kind>, Run)]) -> Option<Worst> {
+    let fitted: Vec<Vec<f64>> = groups.iter().map(|(_, run)| run.x.clone()).collect::<Option<_>>()?;
+    let residuals: Vec<f64> = fitted.iter().enumerate().flat_map(|(g, x)| rig.residuals(g, x)).collect();
+    let (points, _) = rig.finish(&fitted);
+    let rows = rig.residuals_at(points.as_flattened());
+    Some(Worst { fit: counted::bare::max_abs(&residuals), printed: counted::bare::max_abs(&rows), rows })
+}
+
+/// How worst differs between the fitted coordinates and the printed points.
+#[derive(Clone, Copy, Default)]
+struct Moves {
+    fitted: usize,
+    moved: usize,
+    less: usize,
+    over: usize,
+    infinite: usize,
+    largest: f64,
+}
+
+impl Moves {
+    fn of(worst: &Worst) -> Self {
+        let &Worst { fit, printed, .. } = worst;
+        Self {
+            fitted: 1,
+            moved: usize::from(printed.to_bits() != fit.to_bits()),
+            less: usize::from(printed < fit),
+            over: usize::from(printed > TOLERANCE),
+            infinite: usize::from(printed.is_infinite()),
+            largest: if printed.is_finite() { printed } else { 0.0 },
+        }
+    }
+
+    fn plus(self, other: Self) -> Self {
+        Self {
+            fitted: self.fitted + other.fitted,
+            moved: self.moved + other.moved,
+            less: self.less + other.less,
+            over: self.over + other.over,
+            infinite: self.infinite + other.infinite,
+            largest: self.largest.max(other.largest),
+        }
+    }
+
+    fn row(&self, class: &str) -> String {
+        let Self { fitted, moved, less, over, infinite, largest } = self;
+        format!("| {class} | {fitted} | {moved} | {less} | {over} | {infinite} | {largest:.2e} |")
+    }
 }
 
 #[derive(Default)]
@@ -105,6 +170,8 @@ struct Tally {
     endings: BTreeMap<Ending, usize>,
     /// By their reason and the codes of their last tries.
     failed: BTreeMap<(Reason, Vec<usize>), Failed>,
+    /// By class.
+    worst: BTreeMap<String, Moves>,
 }
 
 /// Iterations by their order of size: each entry is the least of its range.
@@ -112,6 +179,10 @@ const RANGES: [usize; 9] = [0, 1, 3, 6, 11, 21, 51, 101, 200];
 
 impl Tally {
     fn add(&mut self, class: String, seen: &Seen) {
+        if let Some(worst) = &seen.worst {
+            let moves = self.worst.entry(class.clone()).or_default();
+            *moves = moves.plus(Moves::of(worst));
+        }
         *self.classes.entry(class).or_default().entry(seen.status).or_default() += 1;
         self.sound += usize::from(seen.build.is_some());
         self.worked += usize::from(seen.worked());
@@ -169,7 +240,17 @@ impl Tally {
         for ((reason, codes), Failed { fits, columns }) in &self.failed {
             writeln!(output, "| {}, {} | {} | {fits} | {} |", reason.code(), reason.column(), list(codes), list(columns))?;
         }
+        self.print_worst(output)?;
         writeln!(output, "\n{} sound jobs, {} of them fitted after iterations", self.sound, self.worked)
+    }
+
+    fn print_worst(&self, output: &mut impl Write) -> std::io::Result<()> {
+        writeln!(output, "\n| class | fitted | worst moves | less than at the fit | over 1e-12 | infinite | largest finite |")?;
+        writeln!(output, "|---|---|---|---|---|---|---|")?;
+        for (class, moves) in &self.worst {
+            writeln!(output, "{}", moves.row(class))?;
+        }
+        writeln!(output, "{}", self.worst.values().copied().fold(Moves::default(), Moves::plus).row("all"))
     }
 
     fn hold(&self) -> Result<(), String> {

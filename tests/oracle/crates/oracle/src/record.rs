@@ -12,7 +12,7 @@ use job::{Answer, Build, Contact, Equation, Field, Kind, MAX_MAGNITUDE, MIN_SIZE
 
 use crate::answer::{Checked, checked};
 use crate::calls;
-use crate::figures::{Seen, ending, look, sort};
+use crate::figures::{Seen, TOLERANCE, Worst, ending, look, sort};
 use crate::generate::{self, Made};
 
 /// Texts to choose from.
@@ -118,7 +118,8 @@ fn job_traits(made: &Made, judged: &Checked) -> Vec<(String, usize)> {
     let examples = if made.class == "damaged-form" { FORM_EXAMPLES } else { EXAMPLES };
     let mut traits = vec![(format!("class {} {}", made.class, seen.status), examples)];
     if let Some(build) = &seen.build {
-        let one = fit_traits(&seen).into_iter().chain(build_traits(build)).chain(answer_traits(&judged.answer));
+        let worst = seen.worst.iter().flat_map(|worst| worst_traits(build, worst));
+        let one = fit_traits(&seen).into_iter().chain(build_traits(build)).chain(answer_traits(&judged.answer)).chain(worst);
         traits.extend(one.map(|t| (t, 1)));
     }
     traits
@@ -189,6 +190,19 @@ fn answer_traits(answer: &Answer) -> Vec<String> {
         Answer::Failed(f) => vec![format!("{} suspects", f.suspects.len().min(6))],
         Answer::Refused(_) => Vec::new(),
     }
+}
+
+/// What tells worst at the printed points from worst at the fit, and which row of which kind it is.
+fn worst_traits(build: &Build, worst: &Worst) -> Vec<String> {
+    let Worst { fit, printed, rows } = worst;
+    let shown = [
+        ("worst is infinite", printed.is_infinite()),
+        ("worst is over the tolerance and finite", *printed > TOLERANCE && printed.is_finite()),
+        ("worst is less than at the fit", printed < fit),
+    ];
+    let names = build.equations.iter().flat_map(|e| (0..e.kind.rows()).map(|row| format!("worst is row {row} of {}", e.kind.name())));
+    let largest = names.zip(rows).find(|(_, row)| *printed > 0.0 && row.abs() == *printed).map(|(name, _)| name);
+    shown.into_iter().filter(|(_, holds)| *holds).map(|(name, _)| name.to_string()).chain(largest).collect()
 }
 
 /// Every class with every sort of reply (a word and, of a status, its number), the small shapes of

@@ -5,6 +5,7 @@ mod calls;
 mod damage;
 mod figure;
 mod named;
+mod runs;
 mod sections;
 mod soups;
 mod strings;
@@ -46,6 +47,8 @@ const SECTIONS: [(&str, Section); 13] = [
 pub fn job(seed: u64, index: u64) -> Made {
     let rng = &mut Rng::new(seed, index);
     match rng.below(100) {
+        // Out of the sections' rolls, so that every other job is the one that it was.
+        1..=3 => made("placed-runs", &runs::placed_runs(rng)),
         0..=49 => section(rng),
         50..=55 => made("several", &several(rng)),
         56..=57 => made("spanner", &drawn(rng, sections::spanner)),

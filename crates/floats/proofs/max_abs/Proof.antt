@@ -5,9 +5,9 @@ use lib.Ieee.{nan}
 use borrow.Author.Needs.{needs}
 use Rattle.loops.specs.Turns.{fold}
 use Rattle.loops.proofs.Turning.{fold-next, fold-done}
-use Rattle.solver.specs.Sums.{largerAbs, maxAbsOf}
-use Rattle.solver.proofs.max_abs.Statement.{statement}
-use Rattle.solver.proofs.max_abs.Tie as tie
+use Rattle.floats.specs.Largest.{largerAbs, maxAbsOf}
+use Rattle.floats.proofs.max_abs.Statement.{statement}
+use Rattle.floats.proofs.max_abs.Tie as tie
 
 abbrev Inv-loop : tie.InvT-loop
 Inv-loop v m₀ i₀ i-end m i = (i-end ≡ length v) × (i ≤ i-end) × (fold largerAbs m (drop i v) ≡ maxAbsOf v)

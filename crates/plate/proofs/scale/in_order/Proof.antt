@@ -5,9 +5,9 @@ use borrow.Author.Needs.{needs}
 use lib.ListN.{length}
 use Rattle.loops.specs.Turns.{upTo}
 use Rattle.loops.proofs.Turning.{upTo-next, upTo-done}
-use Rattle.measures.specs.Scale.{selfAt, inOrder}
-use Rattle.measures.proofs.scale.in_order.Statement.{statement}
-use Rattle.measures.proofs.scale.in_order.Tie as tie
+use Rattle.plate.specs.Scale.{selfAt, inOrder}
+use Rattle.plate.proofs.scale.in_order.Statement.{statement}
+use Rattle.plate.proofs.scale.in_order.Tie as tie
 
 abbrev Inv-loop : tie.InvT-loop
 Inv-loop places₀ p₀ places p = (p ≤ 40) × (length places ≡ 40) × (upTo 40 p selfAt places ≡ inOrder)

@@ -1,8 +1,8 @@
 use lib.Ieee.{ofBits, div}
-use Rattle.solver.specs.Sums.{largerAbs}
+use Rattle.floats.specs.Largest.{largerAbs}
 use borrow.Author.Needs.{needs}
-use Rattle.solver.proofs.larger_abs.Statement.{statement}
-use Rattle.solver.proofs.larger_abs.Tie as tie
+use Rattle.floats.proofs.larger_abs.Statement.{statement}
+use Rattle.floats.proofs.larger_abs.Tie as tie
 
 returns : tie.Need-returns
 unfolding largerAbs
