@@ -7,31 +7,31 @@ use Rattle.answer.specs.declared.Answer.{Answer}
 use Rattle.answer.specs.declared.GroupFit.{GroupFit}
 
 -- what stands past the groups that count
-abbrev pub blankGroup : GroupFit
-blankGroup = record { lowest = 0; freedom = 0; iterations = 0; tries = 0; code = 0; column = 0 }
+abbrev pub blank_group : GroupFit
+blank_group = record { lowest = 0; freedom = 0; iterations = 0; tries = 0; code = 0; column = 0 }
 
-abbrev pub refusedOf : Ending → Answer
-refusedOf e = record {
+abbrev pub refused_of : Ending → Answer
+refused_of e = record {
   ending = e;
   group_count = 0;
   freedom = 0;
   worst = zero⁺;
-  groups = replicate 40 blankGroup;
+  groups = replicate 40 blank_group;
   suspects = replicate 40 false;
 }
 
-abbrev pub failedOf : GroupFit → List Bool → Answer
-failedOf g suspects = record {
+abbrev pub failed_of : GroupFit → List Bool → Answer
+failed_of g suspects = record {
   ending = Ending.NotConverged;
   group_count = 1;
   freedom = 0;
   worst = zero⁺;
-  groups = g ∷ replicate 39 blankGroup;
+  groups = g ∷ replicate 39 blank_group;
   suspects = suspects;
 }
 
-abbrev pub fittedOf : ℕ → List GroupFit → ℕ → Float → Answer
-fittedOf count groups freedom worst = record {
+abbrev pub fitted_of : ℕ → List GroupFit → ℕ → Float → Answer
+fitted_of count groups freedom worst = record {
   ending = Ending.Fitted;
   group_count = count;
   freedom = freedom;

@@ -1,7 +1,10 @@
 // What a job answers beside its lent output: how it ended, and what document 01 hands out after that ending, on 7 with document
 // 02's reason. Everything else is blank: zeros, and no suspects.
+
+#![tactic(auto)]
+
 ghost use Rattle.std.specs.Prelude.{◌≡◌};
-ghost use Rattle.answer.specs.Endings.{blankGroup, refusedOf, failedOf, fittedOf};
+ghost use Rattle.answer.specs.Endings.{blank_group, refused_of, failed_of, fitted_of};
 ghost use Rattle.sketch.specs.Check.{number_of};
 
 use sketch::Ending;
@@ -35,7 +38,7 @@ pub struct Answer {
 
 // What stands past the groups that count.
 pub fn blank_group() -> GroupFit
-    ensures { result ≡ blankGroup }
+    ensures { result ≡ blank_group }
 {
     GroupFit {
         lowest: 0,
@@ -49,7 +52,7 @@ pub fn blank_group() -> GroupFit
 
 // A job that ends before its fit: only the ending.
 pub fn refused(e: Ending) -> Answer
-    ensures { result ≡ refusedOf e }
+    ensures { result ≡ refused_of e }
 {
     let blank = blank_group();
     Answer {
@@ -64,7 +67,7 @@ pub fn refused(e: Ending) -> Answer
 
 // A group that does not converge, with its reason, and its suspects.
 pub fn failed(g: GroupFit, suspects: [bool; 40]) -> Answer
-    ensures { result ≡ failedOf g suspects }
+    ensures { result ≡ failed_of g suspects }
 {
     let blank = blank_group();
     let mut groups = [blank; 40];
@@ -81,7 +84,7 @@ pub fn failed(g: GroupFit, suspects: [bool; 40]) -> Answer
 
 // A fit: its groups, the total freedom and the largest residual magnitude.
 pub fn fitted(count: usize, groups: [GroupFit; 40], freedom: usize, worst: f64) -> Answer
-    ensures { result ≡ fittedOf count groups freedom worst }
+    ensures { result ≡ fitted_of count groups freedom worst }
 {
     Answer {
         ending: Ending::Fitted,

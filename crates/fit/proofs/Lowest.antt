@@ -7,9 +7,9 @@ use mathlib.Core.Path.{◌≡◌, refl}
 use native.Mathlib.Omega.{arith}
 use lib.ListN.{get_or}
 use Rattle.groups.proofs.Theorem.{groups-are-chains}
-use Rattle.groups.specs.Chains.{pointsIn, Rises}
-use Rattle.groups.specs.Listed.{groupingOf}
-use Rattle.sketch.specs.Check.{checkOf}
+use Rattle.groups.specs.Chains.{points_in, Rises}
+use Rattle.groups.specs.Listed.{grouping_of}
+use Rattle.sketch.specs.Check.{check_of}
 use Rattle.sketch.specs.declared.Build.{Build}
 use Rattle.sketch.specs.declared.Checked.TheVariants.{Passes}
 use Rattle.fit.specs.Frames.{frame_of}
@@ -25,9 +25,9 @@ first (x ∷ l) past p m r = (Memᴰ.head refl, λ q n. of q (Memᴰ.cases_cons 
     of q (inr n) = omega (arith, r.0 q n)
 
 module _ (b : Build) (g : ℕ) where
-  pub lowest-is : checkOf b ≡ Passes → LowestIs b (groupingOf b) g
+  pub lowest-is : check_of b ≡ Passes → LowestIs b (grouping_of b) g
   unfolding frame_of
   lowest-is passes h =
       let c = groups-are-chains b passes in
       let p = c.lowest g h in
-      first (pointsIn (groupingOf b) g) _ p.0 p.1.0 (c.points-rise g)
+      first (points_in (grouping_of b) g) _ p.0 p.1.0 (c.points-rise g)

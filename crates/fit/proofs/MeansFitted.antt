@@ -6,18 +6,18 @@ use mathlib.Core.Path.{refl}
 use lib.Ieee.{Float, of_bits}
 use lib.ListN.{length}
 use Rattle.floats.specs.Ops.{1e-12}
-use Rattle.groups.specs.Chains.{equationsIn}
+use Rattle.groups.specs.Chains.{equations_in}
 use Rattle.groups.specs.declared.Grouping.{Grouping}
 use Rattle.loops.proofs.Flat.{in-flat, map-flat}
-use Rattle.members.specs.Movable.{indicesOf}
+use Rattle.members.specs.Movable.{indices_of}
 use Rattle.rounds.proofs.Holding.{fit-holds}
-use Rattle.rounds.specs.Problem.{rowCount, jacobianAt, problemOf, rowsFor, valuesAt}
+use Rattle.rounds.specs.Problem.{row_count, jacobian_at, problem_of, rows_for, values_at}
 use Rattle.rows.specs.Column.{rows_at}
 use Rattle.rows.specs.Entries.{Row}
 use Rattle.sketch.specs.declared.Build.{Build}
 use Rattle.floats.proofs.Largest.{all-within}
 use Rattle.fit.specs.Frames.{start_in}
-use Rattle.fit.specs.Groups.{frameIn, FittedHolds}
+use Rattle.fit.specs.Groups.{frame_in, FittedHolds}
 use Rattle.fit.proofs.Sets.{equations-back}
 
 abbrev value : Row → Float
@@ -29,9 +29,9 @@ among f k v ks m i = rw (map-flat f value ks) (in-flat (λ j. map value (f j)) k
 
 module _ (b : Build) (gr : Grouping) (g : ℕ) where
   pub fitted-holds : FittedHolds b gr g
-  unfolding valuesAt rowsFor of_bits
+  unfolding values_at rows_for of_bits
   fitted-holds x i t e k m v n =
-      let f = frameIn b gr g in
-      let own = equationsIn gr g in
-      let h = fit-holds (problemOf b.equations b.lines f.places own (indicesOf f.free) (rowCount b.equations own)) (jacobianAt b.equations b.lines f.places own f.columns (length (indicesOf f.free))) (start_in b f) x i t (rw (equations-back b.points gr g) at e) in
-      all-within 1e-12 (valuesAt b.equations b.lines f.places own x) refl refl h v (among (rows_at b.equations b.lines f.places x) k v own m n)
+      let f = frame_in b gr g in
+      let own = equations_in gr g in
+      let h = fit-holds (problem_of b.equations b.lines f.places own (indices_of f.free) (row_count b.equations own)) (jacobian_at b.equations b.lines f.places own f.columns (length (indices_of f.free))) (start_in b f) x i t (rw (equations-back b.points gr g) at e) in
+      all-within 1e-12 (values_at b.equations b.lines f.places own x) refl refl h v (among (rows_at b.equations b.lines f.places x) k v own m n)

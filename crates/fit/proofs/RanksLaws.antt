@@ -12,26 +12,26 @@ use lib.Seq.{get_or-take, length-take-le, take_at, drop_at, drop-drop, drop-appe
 use Rattle.floats.specs.Ops.{zero⁺}
 use Rattle.loops.specs.Turns.{fold}
 use Rattle.loops.proofs.Turning.{fold_next, fold_done}
-use Rattle.members.specs.Lists.{numbersOf}
-use Rattle.members.specs.Movable.{indicesOf}
+use Rattle.members.specs.Lists.{numbers_of}
+use Rattle.members.specs.Movable.{indices_of}
 use Rattle.members.specs.declared.Listed.{Listed}
-use Rattle.nullspace.specs.Promise.{Spans, checked, decomposedOf, vectors_of}
+use Rattle.nullspace.specs.Promise.{Spans, checked, decomposed_of, vectors_of}
 use Rattle.nullspace.specs.Steps.{rank_of}
 use Rattle.nullspace.specs.declared.NullSpace.{NullSpace}
 use Rattle.rounds.proofs.Begins.{fits_in}
 use Rattle.rounds.proofs.Column.{table_is, jacobian-long, rows_few}
-use Rattle.rounds.specs.Problem.{moreRows, rowCount, jacobianAt}
+use Rattle.rounds.specs.Problem.{more_rows, row_count, jacobian_at}
 use Rattle.rounds.specs.Promise.{zeroed}
 use Rattle.rows.proofs.Held.{past-is-held}
-use Rattle.rows.specs.Column.{Laid, laid, equationAt}
+use Rattle.rows.specs.Column.{Laid, laid, equation_at}
 use Rattle.sketch.specs.Rows.{rows_of}
 use Rattle.sketch.specs.declared.Active.{Active}
 use Rattle.sketch.specs.declared.Build.{Build}
 use Rattle.sketch.specs.declared.Equation.{Equation}
-use Rattle.slopes.specs.Dense.{jacobianOf}
-use Rattle.fit.specs.Fits.{gradientsOf, freedomOf}
-use Rattle.fit.specs.Inside.{Lays, Ranks, freedBy}
-use Rattle.fit.specs.Promise.{frameOverRows, short, meaningOf, Frees}
+use Rattle.slopes.specs.Dense.{jacobian_of}
+use Rattle.fit.specs.Fits.{gradients_of, freedom_of}
+use Rattle.fit.specs.Inside.{Lays, Ranks, freed_by}
+use Rattle.fit.specs.Promise.{frame_over_rows, short, meaning_of, Frees}
 use Rattle.fit.specs.declared.Degrees.{Degrees}
 use Rattle.fit.specs.declared.Frame.{Frame}
 
@@ -51,17 +51,17 @@ take_again (suc n) (x ∷ l) = ap {B = List ℕ} (λ r. x ∷ r) (take_again n l
 abbrev count : Laid → ℕ
 count (laid n r) = n
 
-abbrev laidIn : Laid → List Float
-laidIn (laid n r) = r
+abbrev laid_in : Laid → List Float
+laid_in (laid n r) = r
 
-module _ (b : Build) (f : Frame) (nf : ℕ) (x p p' : List Float) (rows k : ℕ) (free : nf ≡ length (indicesOf f.free)) (narrow : nf ≤ 80) (room : 6400 ≤ length p)
-    (n : k ≡ length (numbersOf f.equations.0)) (few : k ≤ 40)
-    (e : laid rows p' ≡ jacobianOf b.equations b.lines f.places x f.columns nf (take k f.equations.0.items) p) where
+module _ (b : Build) (f : Frame) (nf : ℕ) (x p p' : List Float) (rows k : ℕ) (free : nf ≡ length (indices_of f.free)) (narrow : nf ≤ 80) (room : 6400 ≤ length p)
+    (n : k ≡ length (numbers_of f.equations.0)) (few : k ≤ 40)
+    (e : laid rows p' ≡ jacobian_of b.equations b.lines f.places x f.columns nf (take k f.equations.0.items) p) where
   abbrev own : List ℕ
-  own = numbersOf f.equations.0
+  own = numbers_of f.equations.0
 
   abbrev all : ℕ
-  all = rowCount b.equations own
+  all = row_count b.equations own
 
   own-few : length own ≤ 40
   own-few = rw (← n) few
@@ -72,15 +72,15 @@ module _ (b : Build) (f : Frame) (nf : ℕ) (x p p' : List Float) (rows k : ℕ)
   rows-most : all ≤ 80
   rows-most = rows_few b.equations own own-few
 
-  made : laid rows p' ≡ laid all (jacobianAt b.equations b.lines f.places own f.columns nf x ++ drop (all * nf) p)
+  made : laid rows p' ≡ laid all (jacobian_at b.equations b.lines f.places own f.columns nf x ++ drop (all * nf) p)
   made =
       e
-      ∙ ap (λ c. jacobianOf b.equations b.lines f.places x f.columns nf c p) front
+      ∙ ap (λ c. jacobian_of b.equations b.lines f.places x f.columns nf c p) front
       ∙ table_is b.equations b.lines f.places f.columns own nf x p own-few narrow (fits_in all nf (length p) rows-most narrow room)
 
-  is-gradients : jacobianAt b.equations b.lines f.places own f.columns nf x ≡ gradientsOf b f x
-  unfolding gradientsOf
-  is-gradients = ap (λ m. jacobianAt b.equations b.lines f.places own f.columns m x) free
+  is-gradients : jacobian_at b.equations b.lines f.places own f.columns nf x ≡ gradients_of b f x
+  unfolding gradients_of
+  is-gradients = ap (λ m. jacobian_at b.equations b.lines f.places own f.columns m x) free
 
   rows_are : rows ≡ all
   rows_are = ap count made
@@ -90,7 +90,7 @@ module _ (b : Build) (f : Frame) (nf : ℕ) (x p p' : List Float) (rows k : ℕ)
     counted = rows_are;
     few = rw rows_are rows-most;
     long = ap length (sym is-gradients) ∙ jacobian-long b.equations b.lines f.places f.columns own nf x ∙ ap (λ m. m * nf) (sym rows_are);
-    laid = ap laidIn made ∙ rw (is-gradients, rows_are);
+    laid = ap laid_in made ∙ rw (is-gradients, rows_are);
   }
 
 -- ---- the rank
@@ -107,24 +107,24 @@ past v a a' m k e l h t =
     let d : m + (k - m) ≡ k = omega arith in
     ap (drop k) e ∙ (rw c at (drop-append-add v (drop m a) (k - m))) ∙ drop-drop (k - m) m a ∙ ap (λ i. drop i a) d
 
-module _ (rows n : ℕ) (p q r : List Float) (few : rows ≤ 64) (narrow : n ≤ 80) (roomP : 6400 ≤ length p) (roomQ : 6400 ≤ length q) (roomR : 6400 ≤ length r) where
+module _ (rows n : ℕ) (p q r : List Float) (few : rows ≤ 64) (narrow : n ≤ 80) (room_p : 6400 ≤ length p) (room_q : 6400 ≤ length q) (room_r : 6400 ≤ length r) where
   abbrev m : List Float
   m = take (rows * n) p
 
   size_in : rows * n ≤ length p
-  size_in = fits_in rows n (length p) (omega arith) narrow roomP
+  size_in = fits_in rows n (length p) (omega arith) narrow room_p
 
   square-in : n * n ≤ length r
-  square-in = fits_in n n (length r) narrow narrow roomR
+  square-in = fits_in n n (length r) narrow narrow room_r
 
   checked-is : {A : Type 0} (three nine done : A) → checked rows n m q r three nine done ≡ done
   unfolding checked
   checked-is three nine done =
       let long : rows * n ≤ length m = rw (length-take-le (rows * n) p size_in) (le_refl (rows * n)) in
-      rw (le-ltb 64 rows few, le-ltb 80 n narrow, le-ltb (length m) (rows * n) long, le-ltb (length q) (rows * n) (fits_in rows n (length q) (omega arith) narrow roomQ), le-ltb (length r) (n * n) square-in)
+      rw (le-ltb 64 rows few, le-ltb 80 n narrow, le-ltb (length m) (rows * n) long, le-ltb (length q) (rows * n) (fits_in rows n (length q) (omega arith) narrow room_q), le-ltb (length r) (n * n) square-in)
 
   abbrev found : ℕ
-  found = rank_of (decomposedOf rows n m)
+  found = rank_of (decomposed_of rows n m)
 
   pub ranks : (s : NullSpace) (q₁ r₁ zp zr : List Float) → Spans rows n m q r q₁ r₁ s → length r₁ ≡ length r → zp ≡ replicate (length (take (rows * n) p)) zero⁺
       → zr ≡ replicate (length (take (n * n) r₁)) zero⁺ → Ranks rows n p q r (zp ++ drop (rows * n) p) q₁ (zr ++ drop (n * n) r₁) s
@@ -143,30 +143,30 @@ module _ (b : Build) (f : Frame) (x p q r : List Float) where
   pub refused : short p q r ≡ true → Frees b f x p q r p q r Degrees.TooShort
   refused h = record { answer = rw h; meaning = rw h; jacobian = rw h; work = rw h; basis = rw h }
 
-  pub refused-rows : (n : ℕ) → short p q r ≡ false → n ≡ rowCount b.equations (numbersOf f.equations.0) → 64 < n → Frees b f x p q r p q r Degrees.TooManyRows
+  pub refused-rows : (n : ℕ) → short p q r ≡ false → n ≡ row_count b.equations (numbers_of f.equations.0) → 64 < n → Frees b f x p q r p q r Degrees.TooManyRows
   refused-rows n h e k =
-      let o : frameOverRows b f ≡ true = rw (← e) (lt-ltb 64 n k) in
+      let o : frame_over_rows b f ≡ true = rw (← e) (lt-ltb 64 n k) in
       record { answer = rw (h, o); meaning = rw (h, o); jacobian = rw (h, o); work = rw (h, o); basis = rw (h, o) }
 
-  module _ (nf rows : ℕ) (p₁ p₂ q₂ r₂ : List Float) (s : NullSpace) (free : nf ≡ length (indicesOf f.free)) (t : Lays b f nf x p p₁ rows)
+  module _ (nf rows : ℕ) (p₁ p₂ q₂ r₂ : List Float) (s : NullSpace) (free : nf ≡ length (indices_of f.free)) (t : Lays b f nf x p p₁ rows)
       (u : Ranks rows nf p₁ q r p₂ q₂ r₂ s) where
-    at_head : take (rows * nf) p₁ ≡ gradientsOf b f x
-    at_head = ap (take (rows * nf)) t.laid ∙ take_at (gradientsOf b f x) (drop (rows * nf) p) (rows * nf) t.long
+    at_head : take (rows * nf) p₁ ≡ gradients_of b f x
+    at_head = ap (take (rows * nf)) t.laid ∙ take_at (gradients_of b f x) (drop (rows * nf) p) (rows * nf) t.long
 
     past_head : drop (rows * nf) p₁ ≡ drop (rows * nf) p
-    past_head = ap (drop (rows * nf)) t.laid ∙ drop_at (gradientsOf b f x) (drop (rows * nf) p) (rows * nf) t.long
+    past_head = ap (drop (rows * nf)) t.laid ∙ drop_at (gradients_of b f x) (drop (rows * nf) p) (rows * nf) t.long
 
-    freedom-is : nf - rank_of (decomposedOf rows nf (take (rows * nf) p₁)) ≡ freedomOf b f x
-    unfolding freedomOf
+    freedom-is : nf - rank_of (decomposed_of rows nf (take (rows * nf) p₁)) ≡ freedom_of b f x
+    unfolding freedom_of
     freedom-is = rw (at_head, t.counted, free)
 
-    pub frees : (d : Degrees) → d ≡ freedBy nf s → short p q r ≡ false → rowCount b.equations (numbersOf f.equations.0) ≤ 64 → Frees b f x p q r p₂ q₂ r₂ d
+    pub frees : (d : Degrees) → d ≡ freed_by nf s → short p q r ≡ false → row_count b.equations (numbers_of f.equations.0) ≤ 64 → Frees b f x p q r p₂ q₂ r₂ d
     frees d e h k =
-        let o : frameOverRows b f ≡ false = le-ltb 64 _ k in
-        let is : d ≡ Degrees.Of (freedomOf b f x) = e ∙ ap (freedBy nf) u.answer ∙ ap Degrees.Of freedom-is in
+        let o : frame_over_rows b f ≡ false = le-ltb 64 _ k in
+        let is : d ≡ Degrees.Of (freedom_of b f x) = e ∙ ap (freed_by nf) u.answer ∙ ap Degrees.Of freedom-is in
         record {
           answer = rw (h, o) is;
-          meaning = rw (h, o) (ap meaningOf is);
+          meaning = rw (h, o) (ap meaning_of is);
           jacobian = rw (h, o) (u.matrix ∙ ap (λ l. replicate (rows * nf) zero⁺ ++ l) past_head ∙ rw (t.counted, free));
           work = rw (h, o) (u.work ∙ rw (t.counted, free));
           basis = rw (h, o) (u.basis ∙ rw free);
@@ -174,21 +174,21 @@ module _ (b : Build) (f : Frame) (x p q r : List Float) where
 
 -- ---- counting the rows
 
-module _ (es : List Active) (items : List ℕ) (n i rows : ℕ) (room : n ≤ length items) (h : i < n) (R : ℕ) (t : fold (moreRows es) rows (drop i (take n items)) ≡ R) where
-  pub more_rows : (r : ℕ) (q : Equation) → r ≡ rows_of q → q ≡ equationAt es (get_or items i 0) → fold (moreRows es) (rows + r) (drop (i + 1) (take n items)) ≡ R
-  unfolding moreRows
-  more_rows r q a b =
-      fold_next 0 (moreRows es) (take n items) i rows (rows + r) R (rw (length-take-le n items room) h)
-      (ap (λ m. rows + m) (a ∙ ap rows_of (b ∙ ap (equationAt es) (sym (get_or-take n items i 0 h))))) t
+module _ (es : List Active) (items : List ℕ) (n i rows : ℕ) (room : n ≤ length items) (h : i < n) (R : ℕ) (t : fold (more_rows es) rows (drop i (take n items)) ≡ R) where
+  pub more-rows : (r : ℕ) (q : Equation) → r ≡ rows_of q → q ≡ equation_at es (get_or items i 0) → fold (more_rows es) (rows + r) (drop (i + 1) (take n items)) ≡ R
+  unfolding more_rows
+  more-rows r q a b =
+      fold_next 0 (more_rows es) (take n items) i rows (rows + r) R (rw (length-take-le n items room) h)
+      (ap (λ m. rows + m) (a ∙ ap rows_of (b ∙ ap (equation_at es) (sym (get_or-take n items i 0 h))))) t
 
   -- past the last equation there is `Held`
-  pub no_row : length es ≤ get_or items i 0 → fold (moreRows es) rows (drop (i + 1) (take n items)) ≡ R
+  pub no_row : length es ≤ get_or items i 0 → fold (more_rows es) rows (drop (i + 1) (take n items)) ≡ R
   unfolding rows_of
-  no_row past = (rw add-zero at (more_rows 0 Equation.Held refl (past-is-held es _ past)))
+  no_row past = (rw add-zero at (more-rows 0 Equation.Held refl (past-is-held es _ past)))
 
-pub counted : (es : List Active) (l : Listed) (n i rows : ℕ) → n ≡ length (numbersOf l) → n ≤ i
-    → fold (moreRows es) rows (drop i (take n l.items)) ≡ fold (moreRows es) 0 (take n l.items) → rows ≡ rowCount es (numbersOf l)
-unfolding rowCount
+pub counted : (es : List Active) (l : Listed) (n i rows : ℕ) → n ≡ length (numbers_of l) → n ≤ i
+    → fold (more_rows es) rows (drop i (take n l.items)) ≡ fold (more_rows es) 0 (take n l.items) → rows ≡ row_count es (numbers_of l)
+unfolding row_count
 counted es l n i rows e h t =
-    fold_done (moreRows es) (take n l.items) i rows _ (omega (arith, length-take n l.items)) t
-    ∙ ap (fold (moreRows es) 0) (ap (λ m. take m l.items) e ∙ take_again l.count l.items)
+    fold_done (more_rows es) (take n l.items) i rows _ (omega (arith, length-take n l.items)) t
+    ∙ ap (fold (more_rows es) 0) (ap (λ m. take m l.items) e ∙ take_again l.count l.items)

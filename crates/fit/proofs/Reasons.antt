@@ -4,11 +4,11 @@ use Rattle.groups.specs.declared.Grouping.{Grouping}
 use Rattle.rounds.proofs.Reasons.{why-exactly, tells-why}
 use Rattle.sketch.specs.declared.Build.{Build}
 use Rattle.fit.specs.Frames.{start_in}
-use Rattle.fit.specs.Groups.{frameIn, problemAt, slopesAt, ReasonExactly, ReasonTells}
+use Rattle.fit.specs.Groups.{frame_in, problem_at, slopes_at, ReasonExactly, ReasonTells}
 
 module _ (b : Build) (gr : Grouping) (g : ℕ) where
   pub reason-exactly : ReasonExactly b gr g
-  reason-exactly = why-exactly (problemAt b gr g) (slopesAt b gr g) (start_in b (frameIn b gr g))
+  reason-exactly = why-exactly (problem_at b gr g) (slopes_at b gr g) (start_in b (frame_in b gr g))
 
   pub reason-tells : ReasonTells b gr g
-  reason-tells = tells-why (problemAt b gr g) (slopesAt b gr g) (start_in b (frameIn b gr g))
+  reason-tells = tells-why (problem_at b gr g) (slopes_at b gr g) (start_in b (frame_in b gr g))

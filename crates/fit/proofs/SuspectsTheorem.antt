@@ -11,10 +11,10 @@ use lib.ListN.{length, get_or, replicate, length-set, length-replicate, get_or-r
 use lib.Seq.{get_or-set_same, get_or-set_other}
 use Rattle.groups.specs.declared.Grouping.{Grouping}
 use Rattle.loops.specs.Turns.{fold}
-use Rattle.members.specs.Lists.{numbersOf}
+use Rattle.members.specs.Lists.{numbers_of}
 use Rattle.sketch.specs.declared.Build.{Build}
-use Rattle.fit.specs.Fits.{suspect, mark, suspectsOf}
-use Rattle.fit.specs.Groups.{frameIn, SuspectsExactly}
+use Rattle.fit.specs.Fits.{suspect, mark, suspects_of}
+use Rattle.fit.specs.Groups.{frame_in, SuspectsExactly}
 use Rattle.fit.specs.declared.Frame.{Frame}
 use Rattle.fit.proofs.Sets.{equations-back}
 
@@ -63,7 +63,7 @@ module _ (b : Build) (f : Frame) (k : ℕ) where
       of (inr p) (yes q) = inl (Memᴰ.head q)
       of (inr p) (no q) = inr (sym (other marks a q) ∙ p)
 
-  unmarked : Memᴰ k (numbersOf f.equations.0) ⊎ (get_or (replicate 40 false) k false ≡ true) → k < 40 → Memᴰ k (numbersOf f.equations.0)
+  unmarked : Memᴰ k (numbers_of f.equations.0) ⊎ (get_or (replicate 40 false) k false ≡ true) → k < 40 → Memᴰ k (numbers_of f.equations.0)
   unmarked (inl m) h = m
   unmarked (inr p) h =
       let n : ◌≡◌ {A = Bool} false true = sym (get_or-replicate 40 k false false h) ∙ p in
@@ -77,16 +77,16 @@ module _ (b : Build) (f : Frame) where
   marked-sized (a ∷ l) marks = marked-sized l (mark b f marks a) ∙ rw length-set
 
   -- a mark for each of 40 equations
-  pub suspects-sized : length (suspectsOf b f) ≡ 40
-  unfolding suspectsOf
-  suspects-sized = marked-sized (numbersOf f.equations.0) (replicate 40 false) ∙ length-replicate 40 false
+  pub suspects-sized : length (suspects_of b f) ≡ 40
+  unfolding suspects_of
+  suspects-sized = marked-sized (numbers_of f.equations.0) (replicate 40 false) ∙ length-replicate 40 false
 
 module _ (b : Build) (gr : Grouping) (g : ℕ) where
   pub suspects-exactly : SuspectsExactly b gr g
-  unfolding suspectsOf suspect
+  unfolding suspects_of suspect
   suspects-exactly k h =
-      let f = frameIn b gr g in
-      let own = numbersOf f.equations.0 in
+      let f = frame_in b gr g in
+      let own = numbers_of f.equations.0 in
       let long : k < length (replicate 40 false) = rw (length-replicate 40 false) h in (
         λ e. let m = unmarked b f k (listed b f k own (replicate 40 false) e) h in (rw (equations-back b.points gr g) at m, rw (equations-back b.points gr g) at (sym (marked b f k own (replicate 40 false) long m) ∙ e)),
         λ e. marked b f k own (replicate 40 false) long (rw (equations-back b.points gr g) e.0) ∙ rw (equations-back b.points gr g) e.1,

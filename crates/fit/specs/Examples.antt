@@ -7,18 +7,18 @@ use mathlib.Core.List.{[], ◌∷◌, flat_map, Memᴰ}
 use Rattle.std.proofs.Common.{inl, inr, sym, ◌∙◌}
 use Rattle.std.specs.Float.Ieee.{le, lt, eq, neg, of_bits}
 use Rattle.floats.specs.Ops.{one}
-use Rattle.groups.specs.Chains.{placesFrom}
-use Rattle.groups.specs.Listed.{numberedOf, entered_of, point_of, listPoint, listPoints, group_of, listEquation, listEquations, groups_of}
-use Rattle.groups.specs.Parents.{climb, rootOf, joinTo, joinAll, selfAt, joined}
-use Rattle.groups.specs.Tied.{tieTo, tieAll, tiedIn}
-use Rattle.groups.specs.Touches.{touchedIn}
+use Rattle.groups.specs.Chains.{places_from}
+use Rattle.groups.specs.Listed.{numbered_of, entered_of, point_of, list_point, list_points, group_of, list_equation, list_equations, groups_of}
+use Rattle.groups.specs.Parents.{climb, root_of, join_to, join_all, self_at, joined}
+use Rattle.groups.specs.Tied.{tie_to, tie_all, tied_in}
+use Rattle.groups.specs.Touches.{touched_in}
 use Rattle.loops.specs.Turns.{turns, up_to, fold, every}
 use Rattle.members.specs.Movable.{nowhere}
-use Rattle.rows.specs.Column.{equationAt}
-use Rattle.sketch.specs.Blank.{origin, pointIn, blankPoint, blankActive, sample}
-use Rattle.sketch.specs.Check.{checkOf}
-use Rattle.sketch.specs.Involved.{line_at, linesNamed}
-use Rattle.sketch.specs.Rows.{moreRows, rows_of}
+use Rattle.rows.specs.Column.{equation_at}
+use Rattle.sketch.specs.Blank.{origin, point_in, blank_point, blank_active, sample}
+use Rattle.sketch.specs.Check.{check_of}
+use Rattle.sketch.specs.Involved.{line_at, lines_named}
+use Rattle.sketch.specs.Rows.{more_rows, rows_of}
 use Rattle.sketch.specs.declared.Active.{Active}
 use Rattle.sketch.specs.declared.Build.{Build}
 use Rattle.sketch.specs.declared.Checked.TheVariants.{Passes}
@@ -26,32 +26,32 @@ use Rattle.sketch.specs.declared.Equation.{Equation}
 use Rattle.sketch.specs.declared.Line.{Line}
 use Rattle.sketch.specs.declared.LineNo.{LineNo}
 use Rattle.sketch.specs.declared.State.TheVariants.{Kept}
-use Rattle.fit.specs.Own.{pointsOfGroup, equationsOfGroup, SharesGroup}
+use Rattle.fit.specs.Own.{points_of_group, equations_of_group, SharesGroup}
 
 abbrev line : ℕ → ℕ → Line
 line p q = record { from = record { 0 = p }; to = record { 0 = q } }
 
-abbrev lengthIsOne : ℕ → Active
-lengthIsOne l = record { equation = Equation.Length (record { 0 = l }) one }
+abbrev length_is_one : ℕ → Active
+length_is_one l = record { equation = Equation.Length (record { 0 = l }) one }
 
 -- points 0 and 2 are a group too
 abbrev first : Build
-first = sample origin one (replicate 5 blankPoint) (line 3 4 ∷ line 0 2 ∷ []) (lengthIsOne 0 ∷ lengthIsOne 1 ∷ []) []
+first = sample origin one (replicate 5 blank_point) (line 3 4 ∷ line 0 2 ∷ []) (length_is_one 0 ∷ length_is_one 1 ∷ []) []
 
 -- no other group, no other line, and other points
 abbrev second : Build
-second = sample origin one (pointIn Kept ∷ pointIn Kept ∷ pointIn Kept ∷ blankPoint ∷ blankPoint ∷ []) (line 3 4 ∷ []) (lengthIsOne 0 ∷ blankActive ∷ []) []
+second = sample origin one (point_in Kept ∷ point_in Kept ∷ point_in Kept ∷ blank_point ∷ blank_point ∷ []) (line 3 4 ∷ []) (length_is_one 0 ∷ blank_active ∷ []) []
 
-pub passing : (checkOf first ≡ Passes) × (checkOf second ≡ Passes)
-unfolding checkOf le lt eq neg of_bits every flat_map fold moreRows rows_of
+pub passing : (check_of first ≡ Passes) × (check_of second ≡ Passes)
+unfolding check_of le lt eq neg of_bits every flat_map fold more_rows rows_of
 passing = (refl, refl)
 
 grouped :
-    (pointsOfGroup first 1 ≡ 3 ∷ 4 ∷ [])
-    × (pointsOfGroup second 0 ≡ 3 ∷ 4 ∷ [])
-    × (equationsOfGroup first 1 ≡ 0 ∷ [])
-    × (equationsOfGroup second 0 ≡ 0 ∷ [])
-unfolding placesFrom numberedOf entered_of point_of listPoint listPoints group_of listEquation listEquations groups_of climb rootOf joinTo joinAll selfAt joined tieTo tieAll tiedIn touchedIn turns up_to fold
+    (points_of_group first 1 ≡ 3 ∷ 4 ∷ [])
+    × (points_of_group second 0 ≡ 3 ∷ 4 ∷ [])
+    × (equations_of_group first 1 ≡ 0 ∷ [])
+    × (equations_of_group second 0 ≡ 0 ∷ [])
+unfolding places_from numbered_of entered_of point_of list_point list_points group_of list_equation list_equations groups_of climb root_of join_to join_all self_at joined tie_to tie_all tied_in touched_in turns up_to fold
 grouped = (refl, refl, refl, refl)
 
 same_point : (p : ℕ) → Memᴰ p (3 ∷ 4 ∷ []) → get_or first.points p nowhere ≡ get_or second.points p nowhere
@@ -61,10 +61,10 @@ same_point p m = go (Memᴰ.cases_cons m)
     go (inl e) = rw e
     go (inr n) = rw (Memᴰ.eq_of_singleton n)
 
-same-equation : (k : ℕ) → Memᴰ k (0 ∷ []) → equationAt first.equations k ≡ equationAt second.equations k
+same-equation : (k : ℕ) → Memᴰ k (0 ∷ []) → equation_at first.equations k ≡ equation_at second.equations k
 same-equation k m = rw (Memᴰ.eq_of_singleton m)
 
-same_line : (k : ℕ) → Memᴰ k (0 ∷ []) → (l : LineNo) → Memᴰ l (linesNamed (equationAt first.equations k))
+same_line : (k : ℕ) → Memᴰ k (0 ∷ []) → (l : LineNo) → Memᴰ l (lines_named (equation_at first.equations k))
     → line_at first.lines l ≡ line_at second.lines l
 same_line k m l n = rw (Memᴰ.eq_of_singleton (rw (Memᴰ.eq_of_singleton m) at n))
 

@@ -3,23 +3,23 @@
 -- the fit: `own-part-alone` (proofs/Theorem.antt). specs/Examples.antt has two builds that share a group and little else.
 use Rattle.std.specs.Prelude.{ℕ, ◌≡◌, Float, get_or}
 use mathlib.Core.List.{List, Memᴰ}
-use Rattle.groups.specs.Chains.{pointsIn, equationsIn}
-use Rattle.groups.specs.Listed.{groupingOf}
+use Rattle.groups.specs.Chains.{points_in, equations_in}
+use Rattle.groups.specs.Listed.{grouping_of}
 use Rattle.members.specs.Movable.{nowhere}
-use Rattle.rows.specs.Column.{equationAt}
-use Rattle.sketch.specs.Involved.{line_at, linesNamed}
+use Rattle.rows.specs.Column.{equation_at}
+use Rattle.sketch.specs.Involved.{line_at, lines_named}
 use Rattle.sketch.specs.declared.Build.{Build}
 use Rattle.sketch.specs.declared.LineNo.{LineNo}
-use Rattle.fit.specs.Groups.{outcomeAt, freedomAt, residualsAt, suspectsAt, lowestAt}
+use Rattle.fit.specs.Groups.{outcome_at, freedom_at, residuals_at, suspects_at, lowest_at}
 
 -- ---- a group of a build
 
 -- the points and the equations of group g, by number
-abbrev pub pointsOfGroup : Build → ℕ → List ℕ
-pointsOfGroup b g = pointsIn (groupingOf b) g
+abbrev pub points_of_group : Build → ℕ → List ℕ
+points_of_group b g = points_in (grouping_of b) g
 
-abbrev pub equationsOfGroup : Build → ℕ → List ℕ
-equationsOfGroup b g = equationsIn (groupingOf b) g
+abbrev pub equations_of_group : Build → ℕ → List ℕ
+equations_of_group b g = equations_in (grouping_of b) g
 
 -- ---- what two builds share
 
@@ -28,21 +28,21 @@ equationsOfGroup b g = equationsIn (groupingOf b) g
 pub record SharesGroup (b b' : Build) (g g' : ℕ) : Type 0 where
   pub centre : b.centre ≡ b'.centre
   pub size : b.size ≡ b'.size
-  pub listed-points : pointsOfGroup b g ≡ pointsOfGroup b' g'
-  pub listed-equations : equationsOfGroup b g ≡ equationsOfGroup b' g'
-  pub points : (p : ℕ) → Memᴰ p (pointsOfGroup b g) → get_or b.points p nowhere ≡ get_or b'.points p nowhere
-  pub equations : (k : ℕ) → Memᴰ k (equationsOfGroup b g) → equationAt b.equations k ≡ equationAt b'.equations k
-  pub lines : (k : ℕ) → Memᴰ k (equationsOfGroup b g) → (l : LineNo) → Memᴰ l (linesNamed (equationAt b.equations k))
+  pub listed-points : points_of_group b g ≡ points_of_group b' g'
+  pub listed-equations : equations_of_group b g ≡ equations_of_group b' g'
+  pub points : (p : ℕ) → Memᴰ p (points_of_group b g) → get_or b.points p nowhere ≡ get_or b'.points p nowhere
+  pub equations : (k : ℕ) → Memᴰ k (equations_of_group b g) → equation_at b.equations k ≡ equation_at b'.equations k
+  pub lines : (k : ℕ) → Memᴰ k (equations_of_group b g) → (l : LineNo) → Memᴰ l (lines_named (equation_at b.equations k))
       → line_at b.lines l ≡ line_at b'.lines l
 
 -- ---- and what they then agree on
 
 pub record FitsAlike (b b' : Build) (g g' : ℕ) : Type 0 where
   -- outcome: coordinates or reason, iterations and tries
-  pub fit : outcomeAt b (groupingOf b) g ≡ outcomeAt b' (groupingOf b') g'
+  pub fit : outcome_at b (grouping_of b) g ≡ outcome_at b' (grouping_of b') g'
   -- at whatever coordinates, so at those of the fit
-  pub freedom : (x : List Float) → freedomAt b (groupingOf b) g x ≡ freedomAt b' (groupingOf b') g' x
-  pub residuals : (x : List Float) (k : ℕ) → Memᴰ k (equationsOfGroup b g)
-      → residualsAt b (groupingOf b) g x k ≡ residualsAt b' (groupingOf b') g' x k
-  pub suspects : suspectsAt b (groupingOf b) g ≡ suspectsAt b' (groupingOf b') g'
-  pub lowest : lowestAt b (groupingOf b) g ≡ lowestAt b' (groupingOf b') g'
+  pub freedom : (x : List Float) → freedom_at b (grouping_of b) g x ≡ freedom_at b' (grouping_of b') g' x
+  pub residuals : (x : List Float) (k : ℕ) → Memᴰ k (equations_of_group b g)
+      → residuals_at b (grouping_of b) g x k ≡ residuals_at b' (grouping_of b') g' x k
+  pub suspects : suspects_at b (grouping_of b) g ≡ suspects_at b' (grouping_of b') g'
+  pub lowest : lowest_at b (grouping_of b) g ≡ lowest_at b' (grouping_of b') g'

@@ -2,19 +2,19 @@
 use Rattle.std.specs.Prelude.{ℕ, ◌-◌, ◌*◌, Bool, true, false, cond, ◌||◌, List, ◌++◌, ◌≡◌, ltb, Float, length, replicate}
 use Rattle.floats.specs.Only.{only-answer}
 use Rattle.floats.specs.Ops.{zero⁺}
-use Rattle.loops.specs.Numbers.{Meaning, refused, values, tooShort, tooManyRows, notConverged}
+use Rattle.loops.specs.Numbers.{Meaning, refused, values, too_short, too_many_rows, not_converged}
 use Rattle.loops.specs.Turns.{fold}
-use Rattle.members.specs.Lists.{numbersOf, withoutOf}
-use Rattle.members.specs.Movable.{indicesOf}
+use Rattle.members.specs.Lists.{numbers_of, without_of}
+use Rattle.members.specs.Movable.{indices_of}
 use Rattle.members.specs.declared.Equations.{Equations}
 use Rattle.normal.specs.Half.{triangle}
-use Rattle.rounds.specs.Problem.{rowCount}
+use Rattle.rounds.specs.Problem.{row_count}
 use Rattle.rounds.specs.Promise.{zeroed, saying}
 use Rattle.rounds.specs.Promise as rounds
 use Rattle.rounds.specs.Solve.{Outcome, converged, failed}
 use Rattle.rounds.specs.declared.FitEnding.TheVariants.{Converged, Failed, TooShort}
 use Rattle.sketch.specs.declared.Build.{Build}
-use Rattle.fit.specs.Fits.{outcomeIn, freedomOf, suspectsOf}
+use Rattle.fit.specs.Fits.{outcome_in, freedom_of, suspects_of}
 use Rattle.fit.specs.Frames.{start_in}
 use Rattle.fit.specs.declared.Degrees.{Degrees}
 use Rattle.fit.specs.declared.Fitted.{Fitted}
@@ -27,13 +27,13 @@ short p q r = ltb (length p) 6400 || ltb (length q) 6400 || ltb (length r) 6400
 
 -- how many places of an area a fit takes: its Jacobian, the half of its product, and the product's working copy
 abbrev pub wide : Build → Frame → List ℕ → ℕ
-wide b f chosen = rowCount b.equations chosen * length (indicesOf f.free)
+wide b f chosen = row_count b.equations chosen * length (indices_of f.free)
 
 abbrev pub triangular : Build → List ℕ → ℕ
-triangular b chosen = triangle (rowCount b.equations chosen)
+triangular b chosen = triangle (row_count b.equations chosen)
 
 abbrev pub square : Build → List ℕ → ℕ
-square b chosen = rowCount b.equations chosen * rowCount b.equations chosen
+square b chosen = row_count b.equations chosen * row_count b.equations chosen
 
 -- ---- `fit`
 
@@ -42,74 +42,74 @@ abbrev pub padded : ℕ → List Float → List Float
 padded n x = x ++ replicate (80 - n) zero⁺
 
 -- only a fit that converged shows coordinates
-abbrev pub fittedBy : ℕ → Outcome → Fitted
-fittedBy n (converged x i t) = record { solved = saying Converged i t; x = padded n x }
-fittedBy n (failed w i t) = record { solved = saying (Failed w) i t; x = replicate 80 zero⁺ }
+abbrev pub fitted_by : ℕ → Outcome → Fitted
+fitted_by n (converged x i t) = record { solved = saying Converged i t; x = padded n x }
+fitted_by n (failed w i t) = record { solved = saying (Failed w) i t; x = replicate 80 zero⁺ }
 
 abbrev pub refusal : Fitted
 refusal = record { solved = saying TooShort 0 0; x = replicate 80 zero⁺ }
 
 -- what an answer says in document 01's terms: the coordinates, iterations and tries of a fit that converged, or 01's number
-abbrev pub fitMeaning : Fitted → Meaning (List Float × ℕ × ℕ)
-fitMeaning t = rounds.meaningOf t.x t.solved
+abbrev pub fit_meaning : Fitted → Meaning (List Float × ℕ × ℕ)
+fit_meaning t = rounds.meaning_of t.x t.solved
 
-abbrev pub fitMeant : ℕ → Outcome → Meaning (List Float × ℕ × ℕ)
-fitMeant n (converged x i t) = values (padded n x, i, t)
-fitMeant n (failed w i t) = refused notConverged
+abbrev pub fit_meant : ℕ → Outcome → Meaning (List Float × ℕ × ℕ)
+fit_meant n (converged x i t) = values (padded n x, i, t)
+fit_meant n (failed w i t) = refused not_converged
 
 pub record FitsChosen (b : Build) (f : Frame) (chosen : Equations) (p q r p' q' r' : List Float) (t : Fitted) : Type 0 where
-  pub answer : t ≡ cond (short p q r) refusal (fittedBy (length (start_in b f)) (outcomeIn b f (numbersOf chosen.0)))
-  pub meaning : fitMeaning t ≡ cond (short p q r) (refused tooShort) (fitMeant (length (start_in b f)) (outcomeIn b f (numbersOf chosen.0)))
-  pub jacobian : p' ≡ cond (short p q r) p (zeroed (wide b f (numbersOf chosen.0)) p)
-  pub product : q' ≡ cond (short p q r) q (zeroed (triangular b (numbersOf chosen.0)) q)
-  pub copy : r' ≡ cond (short p q r) r (zeroed (square b (numbersOf chosen.0)) r)
+  pub answer : t ≡ cond (short p q r) refusal (fitted_by (length (start_in b f)) (outcome_in b f (numbers_of chosen.0)))
+  pub meaning : fit_meaning t ≡ cond (short p q r) (refused too_short) (fit_meant (length (start_in b f)) (outcome_in b f (numbers_of chosen.0)))
+  pub jacobian : p' ≡ cond (short p q r) p (zeroed (wide b f (numbers_of chosen.0)) p)
+  pub product : q' ≡ cond (short p q r) q (zeroed (triangular b (numbers_of chosen.0)) q)
+  pub copy : r' ≡ cond (short p q r) r (zeroed (square b (numbers_of chosen.0)) r)
 
 -- ---- `freedom`
 
-abbrev pub frameOverRows : Build → Frame → Bool
-frameOverRows b f = ltb 64 (rowCount b.equations (numbersOf f.equations.0))
+abbrev pub frame_over_rows : Build → Frame → Bool
+frame_over_rows b f = ltb 64 (row_count b.equations (numbers_of f.equations.0))
 
 -- 01's numbers for the call, in 01's order: 9, then 6
-abbrev pub meaningOf : Degrees → Meaning ℕ
-meaningOf (Degrees.Of n) = values n
-meaningOf Degrees.TooShort = refused tooShort
-meaningOf Degrees.TooManyRows = refused tooManyRows
+abbrev pub meaning_of : Degrees → Meaning ℕ
+meaning_of (Degrees.Of n) = values n
+meaning_of Degrees.TooShort = refused too_short
+meaning_of Degrees.TooManyRows = refused too_many_rows
 
 abbrev pub checked : {A : Type 0} → Build → Frame → List Float → List Float → List Float → A → A → A → A
-checked b f p q r nine six done = cond (short p q r) nine (cond (frameOverRows b f) six done)
+checked b f p q r nine six done = cond (short p q r) nine (cond (frame_over_rows b f) six done)
 
 pub record Frees (b : Build) (f : Frame) (x p q r p' q' r' : List Float) (t : Degrees) : Type 0 where
-  pub answer : t ≡ checked b f p q r Degrees.TooShort Degrees.TooManyRows (Degrees.Of (freedomOf b f x))
-  pub meaning : meaningOf t ≡ checked b f p q r (refused tooShort) (refused tooManyRows) (values (freedomOf b f x))
-  pub jacobian : p' ≡ checked b f p q r p p (zeroed (wide b f (numbersOf f.equations.0)) p)
-  pub work : q' ≡ checked b f p q r q q (zeroed (wide b f (numbersOf f.equations.0)) q)
-  pub basis : r' ≡ checked b f p q r r r (zeroed (length (indicesOf f.free) * length (indicesOf f.free)) r)
+  pub answer : t ≡ checked b f p q r Degrees.TooShort Degrees.TooManyRows (Degrees.Of (freedom_of b f x))
+  pub meaning : meaning_of t ≡ checked b f p q r (refused too_short) (refused too_many_rows) (values (freedom_of b f x))
+  pub jacobian : p' ≡ checked b f p q r p p (zeroed (wide b f (numbers_of f.equations.0)) p)
+  pub work : q' ≡ checked b f p q r q q (zeroed (wide b f (numbers_of f.equations.0)) q)
+  pub basis : r' ≡ checked b f p q r r r (zeroed (length (indices_of f.free) * length (indices_of f.free)) r)
 
 -- ---- `suspects`
 
 -- each fit without one equation leaves the areas +0.0 where it used them
 abbrev pub withouts : Build → Frame → ℕ → List ℕ
-withouts b f k = withoutOf k (numbersOf f.equations.0)
+withouts b f k = without_of k (numbers_of f.equations.0)
 
-unfoldable pub jacobianLeft : Build → Frame → List Float → ℕ → List Float
-jacobianLeft b f p k = zeroed (wide b f (withouts b f k)) p
+unfoldable pub jacobian_left : Build → Frame → List Float → ℕ → List Float
+jacobian_left b f p k = zeroed (wide b f (withouts b f k)) p
 
-unfoldable pub productLeft : Build → Frame → List Float → ℕ → List Float
-productLeft b f q k = zeroed (triangular b (withouts b f k)) q
+unfoldable pub product_left : Build → Frame → List Float → ℕ → List Float
+product_left b f q k = zeroed (triangular b (withouts b f k)) q
 
-unfoldable pub copyLeft : Build → Frame → List Float → ℕ → List Float
-copyLeft b f r k = zeroed (square b (withouts b f k)) r
+unfoldable pub copy_left : Build → Frame → List Float → ℕ → List Float
+copy_left b f r k = zeroed (square b (withouts b f k)) r
 
 -- 9 where an area is too short, or the marks
-abbrev pub markedOf : Marked → Meaning (List Bool)
-markedOf t = cond t.short (refused tooShort) (values t.marks)
+abbrev pub marked_of : Marked → Meaning (List Bool)
+marked_of t = cond t.short (refused too_short) (values t.marks)
 
 pub record Marks (b : Build) (f : Frame) (p q r p' q' r' : List Float) (t : Marked) : Type 0 where
-  pub answer : t ≡ cond (short p q r) (record { short = true; marks = replicate 40 false }) (record { short = false; marks = suspectsOf b f })
-  pub meaning : markedOf t ≡ cond (short p q r) (refused tooShort) (values (suspectsOf b f))
-  pub jacobian : p' ≡ cond (short p q r) p (fold (jacobianLeft b f) p (numbersOf f.equations.0))
-  pub product : q' ≡ cond (short p q r) q (fold (productLeft b f) q (numbersOf f.equations.0))
-  pub copy : r' ≡ cond (short p q r) r (fold (copyLeft b f) r (numbersOf f.equations.0))
+  pub answer : t ≡ cond (short p q r) (record { short = true; marks = replicate 40 false }) (record { short = false; marks = suspects_of b f })
+  pub meaning : marked_of t ≡ cond (short p q r) (refused too_short) (values (suspects_of b f))
+  pub jacobian : p' ≡ cond (short p q r) p (fold (jacobian_left b f) p (numbers_of f.equations.0))
+  pub product : q' ≡ cond (short p q r) q (fold (product_left b f) q (numbers_of f.equations.0))
+  pub copy : r' ≡ cond (short p q r) r (fold (copy_left b f) r (numbers_of f.equations.0))
 
 -- ---- no second answer, and no other content of a lent place, meets a promise
 

@@ -3,26 +3,26 @@
 use Rattle.std.specs.Prelude.{ℕ, zero, suc, false, List, [], ◌∷◌, ◌≡◌, refl, Float, replicate}
 use Rattle.std.specs.Float.{nan, inf, binary64}
 use Rattle.std.specs.Float.Ieee.{of_bits}
-use Rattle.floats.specs.Largest.{largerAbs, maxAbsOf}
+use Rattle.floats.specs.Largest.{larger_abs, max_abs_of}
 use Rattle.floats.specs.Ops.{zero⁺, zero⁻, one, two}
-use Rattle.groups.specs.Chains.{pointsIn, equationsIn}
+use Rattle.groups.specs.Chains.{points_in, equations_in}
 use Rattle.groups.specs.Examples as groups-worked
 use Rattle.groups.specs.Examples.{Group}
-use Rattle.groups.specs.Listed.{groupingOf}
+use Rattle.groups.specs.Listed.{grouping_of}
 use Rattle.groups.specs.declared.Grouping.{Grouping}
 use Rattle.level.specs.Examples as level-worked
-use Rattle.level.specs.Level.{levelOf}
+use Rattle.level.specs.Level.{level_of}
 use Rattle.loops.specs.Turns.{go, fold}
 use Rattle.members.specs.Examples.{Unmoved, unmoved}
 use Rattle.root.specs.Examples.{root-two, root-least, root-minus-zero}
-use Rattle.root.specs.Root.{sqrtOf}
-use Rattle.sketch.specs.Blank.{origin, pointIn, blankPoint, blankActive, sample}
+use Rattle.root.specs.Root.{sqrt_of}
+use Rattle.sketch.specs.Blank.{origin, point_in, blank_point, blank_active, sample}
 use Rattle.sketch.specs.declared.Active.{Active}
 use Rattle.sketch.specs.declared.Equation.{Equation}
 use Rattle.sketch.specs.declared.State.{State}
 use Rattle.sketch.specs.declared.State.TheVariants.{Free, Kept}
 use Rattle.solver.specs.Examples.{worked}
-use Rattle.solver.specs.Steps.{solutionOf}
+use Rattle.solver.specs.Steps.{solution_of}
 
 abbrev coincident : ℕ → ℕ → Active
 coincident p q = record { equation = Equation.Coincident (record { 0 = p }) (record { 0 = q }) }
@@ -31,25 +31,25 @@ abbrev distance : ℕ → ℕ → Active
 distance p q = record { equation = Equation.Distance (record { 0 = p }) (record { 0 = q }) zero⁺ }
 
 -- y is axis 1
-abbrev levelY : ℕ → ℕ → Active
-levelY p q = record { equation = Equation.Level (record { 0 = p }) (record { 0 = q }) 1 }
+abbrev level_y : ℕ → ℕ → Active
+level_y p q = record { equation = Equation.Level (record { 0 = p }) (record { 0 = q }) 1 }
 
 -- its points and its equations
 abbrev group : List ℕ → List ℕ → Group
 group ps es = record { points = ps; constraints = es }
 
 -- the groups, from group j on, of which n are left
-abbrev groupsFrom : Grouping → ℕ → ℕ → List Group
-groupsFrom g j zero = []
-groupsFrom g j (suc n) = group (pointsIn g j) (equationsIn g j) ∷ groupsFrom g (suc j) n
+abbrev groups_from : Grouping → ℕ → ℕ → List Group
+groups_from g j zero = []
+groups_from g j (suc n) = group (points_in g j) (equations_in g j) ∷ groups_from g (suc j) n
 
 -- of a build of five free points
-abbrev groupsWith : List Active → List Group
-groupsWith es = let g = groupingOf (sample origin one (replicate 5 blankPoint) [] es []) in groupsFrom g 0 g.count
+abbrev groups_with : List Active → List Group
+groups_with es = let g = grouping_of (sample origin one (replicate 5 blank_point) [] es []) in groups_from g 0 g.count
 
 -- of the points 0, 1 and 2 in these states, with y level (0, 1) and (1, 2)
 abbrev levelled : State → State → State → List Float → List Float
-levelled s t u points = levelOf (sample origin one (pointIn s ∷ pointIn t ∷ pointIn u ∷ []) [] (levelY 0 1 ∷ levelY 1 2 ∷ []) []) points
+levelled s t u points = level_of (sample origin one (point_in s ∷ point_in t ∷ point_in u ∷ []) [] (level_y 0 1 ∷ level_y 1 2 ∷ []) []) points
 
 abbrev 3·0 : Float
 3·0 = of_bits binary64 0x4008_0000_0000_0000
@@ -67,13 +67,13 @@ abbrev 7·0 : Float
 
 pub record BothSides : Type 0 where
   -- (a) coincident(3,1), coincident(4,3) of 5 points: one group 1,3,4
-  pub a : groupsWith (coincident 3 1 ∷ coincident 4 3 ∷ []) ≡ group (1 ∷ 3 ∷ 4 ∷ []) (0 ∷ 1 ∷ []) ∷ []
+  pub a : groups_with (coincident 3 1 ∷ coincident 4 3 ∷ []) ≡ group (1 ∷ 3 ∷ 4 ∷ []) (0 ∷ 1 ∷ []) ∷ []
   -- (b) coincident(4,3), coincident(0,2): group 0,2 with equation 1, then 3,4 with equation 0
-  pub b : groupsWith (coincident 4 3 ∷ coincident 0 2 ∷ []) ≡ group (0 ∷ 2 ∷ []) (1 ∷ []) ∷ group (3 ∷ 4 ∷ []) (0 ∷ []) ∷ []
+  pub b : groups_with (coincident 4 3 ∷ coincident 0 2 ∷ []) ≡ group (0 ∷ 2 ∷ []) (1 ∷ []) ∷ group (3 ∷ 4 ∷ []) (0 ∷ []) ∷ []
   -- (c) Held only: no group
-  pub c : groupsWith (blankActive ∷ []) ≡ []
+  pub c : groups_with (blank_active ∷ []) ≡ []
   -- (d) distance(2,2): group 2
-  pub d : groupsWith (distance 2 2 ∷ []) ≡ group (2 ∷ []) (0 ∷ []) ∷ []
+  pub d : groups_with (distance 2 2 ∷ []) ≡ group (2 ∷ []) (0 ∷ []) ∷ []
   -- (e) level y (0,1),(1,2), point 2 fixed at 5: all 5
   pub e : (x₀ y₀ x₁ y₁ x₂ : Float)
       → levelled Free Free Kept (x₀ ∷ y₀ ∷ x₁ ∷ y₁ ∷ x₂ ∷ 5·0 ∷ []) ≡ x₀ ∷ 5·0 ∷ x₁ ∷ 5·0 ∷ x₂ ∷ 5·0 ∷ []
@@ -81,20 +81,20 @@ pub record BothSides : Type 0 where
   pub f : (x₀ y₀ x₁ x₂ : Float)
       → levelled Free Kept Kept (x₀ ∷ y₀ ∷ x₁ ∷ 3·0 ∷ x₂ ∷ 7·0 ∷ []) ≡ x₀ ∷ 3·0 ∷ x₁ ∷ 3·0 ∷ x₂ ∷ 7·0 ∷ []
   -- (g) root of 2 is 3ff6a09e667f3bcd
-  pub g : sqrtOf two ≡ of_bits binary64 0x3ff6_a09e_667f_3bcd
+  pub g : sqrt_of two ≡ of_bits binary64 0x3ff6_a09e_667f_3bcd
   -- (h) root of the least subnormal is 1e60000000000000
-  pub h : sqrtOf (of_bits binary64 1) ≡ of_bits binary64 0x1e60_0000_0000_0000
+  pub h : sqrt_of (of_bits binary64 1) ≡ of_bits binary64 0x1e60_0000_0000_0000
   -- (i) root of −0.0 is −0.0
-  pub i : sqrtOf zero⁻ ≡ zero⁻
+  pub i : sqrt_of zero⁻ ≡ zero⁻
   -- (j) largest of no residuals is +0.0, of one NaN infinity
-  pub j : (maxAbsOf [] ≡ zero⁺) × (maxAbsOf (nan ∷ []) ≡ inf false)
+  pub j : (max_abs_of [] ≡ zero⁺) × (max_abs_of (nan ∷ []) ≡ inf false)
   -- (k) [[0,1],[1,0]] with 3,4 gives 4,3
-  pub k : solutionOf 2 (zero⁺ ∷ one ∷ one ∷ zero⁺ ∷ []) (3·0 ∷ 4·0 ∷ []) ≡ go (4·0 ∷ 3·0 ∷ [])
+  pub k : solution_of 2 (zero⁺ ∷ one ∷ one ∷ zero⁺ ∷ []) (3·0 ∷ 4·0 ∷ []) ≡ go (4·0 ∷ 3·0 ∷ [])
   -- (l) unmoved start −0.0 gives +0.0, of a free point and of a kept one
   pub l : Unmoved Free × Unmoved Kept
 
-largest : (maxAbsOf [] ≡ zero⁺) × (maxAbsOf (nan ∷ []) ≡ inf false)
-unfolding maxAbsOf largerAbs fold
+largest : (max_abs_of [] ≡ zero⁺) × (max_abs_of (nan ∷ []) ≡ inf false)
+unfolding max_abs_of larger_abs fold
 largest = (refl, refl)
 
 pub both-sides : BothSides

@@ -1,6 +1,6 @@
 // The fit of a frame with some of its equations.
 ghost use Rattle.std.specs.Prelude.{◌≡◌};
-ghost use Rattle.fit.specs.Inside.{shownOf};
+ghost use Rattle.fit.specs.Inside.{shown_of};
 ghost use Rattle.fit.specs.Promise.{FitsChosen};
 
 use crate::{Fitted, Frame};
@@ -11,7 +11,7 @@ use sketch::Build;
 
 // Only what has converged is shown.
 fn shown(s: Solved, x: [f64; 80]) -> Fitted
-    ensures { result ≡ shownOf s x }
+    ensures { result ≡ shown_of s x }
 {
     let ending = s.ending;
     match ending {

@@ -1,5 +1,8 @@
 // The fit of a group (equations.rs, `fit`, `freedom`, `conflicts`): its points and equations set out once, fitted, its freedom
 // at the fit, and the suspects where it fails. A work area that is lent has room for 6,400 numbers.
+
+#![tactic(auto)]
+
 mod fits;
 mod frames;
 mod marks;

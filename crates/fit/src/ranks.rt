@@ -1,9 +1,9 @@
 // The freedom of a group at given coordinates.
 ghost use Rattle.std.specs.Prelude.{◌≡◌, ◌-◌, ◌≤◌, length};
-ghost use Rattle.members.specs.Lists.{numbersOf};
-ghost use Rattle.members.specs.Movable.{indicesOf};
-ghost use Rattle.rounds.specs.Problem.{rowCount};
-ghost use Rattle.fit.specs.Inside.{Lays, Ranks, freedBy};
+ghost use Rattle.members.specs.Lists.{numbers_of};
+ghost use Rattle.members.specs.Movable.{indices_of};
+ghost use Rattle.rounds.specs.Problem.{row_count};
+ghost use Rattle.fit.specs.Inside.{Lays, Ranks, freed_by};
 ghost use Rattle.fit.specs.Promise.{Frees};
 
 use crate::{Degrees, Frame};
@@ -14,20 +14,20 @@ use sketch::Build;
 
 // How many numbers are listed: no more than there are places.
 pub(crate) fn numbers(l: Listed) -> usize
-    ensures { (result ≡ length (numbersOf l)) × (result ≤ 40) }
+    ensures { (result ≡ length (numbers_of l)) × (result ≤ 40) }
 {
     smaller(l.count, 40)
 }
 
 fn free_count(f: Coordinates) -> usize
-    ensures { (result ≡ length (indicesOf f)) × (result ≤ 80) }
+    ensures { (result ≡ length (indices_of f)) × (result ≤ 80) }
 {
     smaller(f.count, 80)
 }
 
 // How many rows the frame's own equations have.
 fn row_count(b: Build, f: Frame) -> usize
-    ensures { result ≡ rowCount b.equations (numbersOf f.equations.0) }
+    ensures { result ≡ row_count b.equations (numbers_of f.equations.0) }
 {
     let own = f.equations.0;
     let items = own.items;
@@ -49,7 +49,7 @@ fn row_count(b: Build, f: Frame) -> usize
 
 // The gradients of the frame's own equations at x, at the head of p, and how many rows they are.
 fn lay(b: Build, f: Frame, nf: usize, x: &[f64], p: &mut [f64]) -> usize
-    requires { (nf ≡ length (indicesOf f.free)) × (nf ≤ 80) × (6400 ≤ length p.old) }
+    requires { (nf ≡ length (indices_of f.free)) × (nf ≤ 80) × (6400 ≤ length p.old) }
     ensures { Lays b f nf x.now p.old p.new result }
 {
     let own = f.equations.0;
@@ -84,7 +84,7 @@ fn less(n: usize, k: usize) -> usize
 
 // Free coordinates minus rank.
 fn freed(nf: usize, s: NullSpace) -> Degrees
-    ensures { result ≡ freedBy nf s }
+    ensures { result ≡ freed_by nf s }
 {
     match s {
         NullSpace::Rank(k) => Degrees::Of(less(nf, k)),

@@ -9,28 +9,28 @@ use Rattle.io.specs.Counts.{IsPrefixLen}
 use Rattle.loops.proofs.Parts.{front}
 use Rattle.reply.proofs.Written.{written-first}
 use Rattle.reply.proofs.Short.{short}
-use Rattle.run.specs.Promise.{Runs, replyBuild, replyBy, replyTo}
+use Rattle.run.specs.Promise.{Runs, reply_build, reply_by, reply_to}
 use Rattle.sketch.specs.declared.Build.{Build}
 use Rattle.text.specs.Reader.{read_of}
 use Rattle.text.specs.declared.Outcome.{Outcome}
 use Rattle.text.specs.declared.Outcome.TheVariants.{Read, Ends}
 use Rattle.fitter.specs.Answered.{area, answered}
 
-reply-short : (p q r : List Float) (o : Outcome) (b : Build) → length (replyBy p q r o b) ≤ 8192
-unfolding replyBuild
+reply-short : (p q r : List Float) (o : Outcome) (b : Build) → length (reply_by p q r o b) ≤ 8192
+unfolding reply_build
 reply-short p q r Read b = short _ _ _ _
 reply-short p q r (Ends e) b = short _ _ _ _
 
 module _ (text reply reply' : List ℕ) (p' q' r' : List Float) (n : ℕ) (ran : Runs text reply area area area reply' p' q' r' n) (room : 8192 ≡ length reply) (kept : length reply' ≡ length reply) where
   fits : n ≤ length reply
   fits =
-      let k : length (replyTo area area area text) ≤ 8192 = reply-short area area area (read_of text).outcome (read_of text).build in
-      let m : n ≡ length (replyTo area area area text) = ran.needed in
+      let k : length (reply_to area area area text) ≤ 8192 = reply-short area area area (read_of text).outcome (read_of text).build in
+      let m : n ≡ length (reply_to area area area text) = ran.needed in
       omega arith
 
   written : take n reply' ≡ answered text
   unfolding answered
-  written = rw ran.written (written-first (replyTo area area area text) reply n ran.needed fits)
+  written = rw ran.written (written-first (reply_to area area area text) reply n ran.needed fits)
 
   pub laid : IsPrefixLen n reply' × (take n reply' ≡ answered text)
   laid = let h : n ≤ length reply' = rw kept fits in ((h, front n reply' h), written)

@@ -10,6 +10,6 @@ Taken (Ended n) text = IsPrefixLen n text
 Taken Failed text = Unit {0}
 
 -- what a read of so many places at most comes to: below 0 it failed, and that is no end
-abbrev pub outcomeOf : ℤ → ℕ → Input
-outcomeOf (pos k) most = Ended (clamp_len (pos k) most)
-outcomeOf (negsuc k) most = Failed
+abbrev pub outcome_of : ℤ → ℕ → Input
+outcome_of (pos k) most = Ended (clamp_len (pos k) most)
+outcome_of (negsuc k) most = Failed

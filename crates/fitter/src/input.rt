@@ -1,6 +1,6 @@
 // The text on standard input.
 ghost use Rattle.std.specs.Prelude.{◌≡◌, length};
-ghost use Rattle.fitter.specs.Taken.{Taken, outcomeOf};
+ghost use Rattle.fitter.specs.Taken.{Taken, outcome_of};
 
 use libc::STDIN_FILENO;
 
@@ -15,7 +15,7 @@ pub(crate) enum Input {
 // end of the input.
 fn outcome(got: isize, rest: &[u8]) -> Input
     ensures taken { Taken result rest.now }
-    ensures value { result ≡ outcomeOf got (length rest.now) }
+    ensures value { result ≡ outcome_of got (length rest.now) }
 {
     if got < 0 {
         Input::Failed

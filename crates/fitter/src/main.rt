@@ -1,5 +1,8 @@
 // A job on standard input, its reply on standard output. What cannot be read, and a reply that cannot be written whole, is said on
 // standard error, and a text that was not read to its end has no reply.
+
+#![tactic(auto)]
+
 mod input;
 mod output;
 

@@ -8,7 +8,7 @@ use lib.Dec.{T}
 use lib.IntN.{ℤ}
 use lib.Ieee.{Float, nan, inf, fin, binary64, to_bits, of_bits, fits, is_nan, nan_bits, top}
 use lib.Ieee.Bits.{to_bits-lt, of_bits-to_bits, nan_bits_is}
-use Rattle.floats.specs.Magnitude.{absOf}
+use Rattle.floats.specs.Magnitude.{abs_of}
 
 apart : (t u q : ℕ) → t + u + q ≡ t + (0 + u + q)
 apart t u q = omega arith
@@ -33,13 +33,13 @@ unfolding fits
 fits-unsigned s zero e h = h
 fits-unsigned s (suc m) e h = h
 
-fits-abs : (x : Float) → T (fits binary64 x) → T (fits binary64 (absOf x))
+fits-abs : (x : Float) → T (fits binary64 x) → T (fits binary64 (abs_of x))
 unfolding fits
 fits-abs nan h = tt
 fits-abs (inf s) h = tt
 fits-abs (fin s m e) h = fits-unsigned s m e h
 
-pub abs-bits : (x : Float) → T (fits binary64 x) → T (not (is_nan x)) → to_bits binary64 x % 0x8000_0000_0000_0000 ≡ to_bits binary64 (absOf x)
+pub abs-bits : (x : Float) → T (fits binary64 x) → T (not (is_nan x)) → to_bits binary64 x % 0x8000_0000_0000_0000 ≡ to_bits binary64 (abs_of x)
 unfolding is_nan to_bits
 abs-bits nan h k = absurd k
 abs-bits (inf true) h k = refl
@@ -50,10 +50,10 @@ abs-bits (fin true m e) h k =
     ∙ mod-eq_of_lt (below-sign m e (fits-unsigned true m e h))
 abs-bits (fin false m e) h k = mod-eq_of_lt (below-sign m e h)
 
-pub abs-value : (x : Float) → T (fits binary64 x) → T (not (is_nan x)) → of_bits binary64 (to_bits binary64 x % 0x8000_0000_0000_0000) ≡ absOf x
-abs-value x h k = ap (of_bits binary64) (abs-bits x h k) ∙ of_bits-to_bits binary64 (absOf x) (fits-abs x h)
+pub abs-value : (x : Float) → T (fits binary64 x) → T (not (is_nan x)) → of_bits binary64 (to_bits binary64 x % 0x8000_0000_0000_0000) ≡ abs_of x
+abs-value x h k = ap (of_bits binary64) (abs-bits x h k) ∙ of_bits-to_bits binary64 (abs_of x) (fits-abs x h)
 
-abs-no-nan : (x : Float) → T (not (is_nan x)) → T (not (is_nan (absOf x)))
+abs-no-nan : (x : Float) → T (not (is_nan x)) → T (not (is_nan (abs_of x)))
 unfolding is_nan
 abs-no-nan nan k = k
 abs-no-nan (inf s) k = tt

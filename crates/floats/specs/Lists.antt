@@ -3,8 +3,8 @@ use Rattle.std.specs.Prelude.{List, ◌++◌, ℕ, Float, length, get_or, set, t
 use Rattle.std.specs.Float.{nan}
 
 -- as much of a list as there is room for, and then what was there
-abbrev pub copiedOf : List Float → List Float → List Float
-copiedOf from to = take (length to) from ++ drop (length from) to
+abbrev pub copied_of : List Float → List Float → List Float
+copied_of from to = take (length to) from ++ drop (length from) to
 
 -- `swap`
 unfoldable pub swap_at : ℕ → ℕ → List Float → List Float

@@ -1,10 +1,13 @@
 // What every room needs of f64 and of slices of them. Each function is total, and its promise is an equation.
+
+#![tactic(auto)]
+
 ghost use Rattle.std.specs.Prelude.{◌≡◌, length, get_or, set, replicate};
 ghost use Rattle.std.specs.Float.{nan};
 ghost use Rattle.std.specs.Float.Ieee.Scale.{finite};
-ghost use Rattle.floats.specs.Largest.{largerAbs, maxAbsOf};
-ghost use Rattle.floats.specs.Lists.{copiedOf, swap_at};
-ghost use Rattle.floats.specs.Magnitude.{absOf, magnitudeOf, max_of};
+ghost use Rattle.floats.specs.Largest.{larger_abs, max_abs_of};
+ghost use Rattle.floats.specs.Lists.{copied_of, swap_at};
+ghost use Rattle.floats.specs.Magnitude.{abs_of, magnitude_of, max_of};
 ghost use Rattle.floats.specs.Ops.{zero⁺};
 
 use loops::smaller;
@@ -12,7 +15,7 @@ use loops::smaller;
 // x without its sign, by its bits: a branch on the sign would be mispredicted every second time in a scan over a matrix. A
 // NaN has no bits of its own, so it is tested for first.
 pub fn abs(x: f64) -> f64
-    ensures { result ≡ absOf x }
+    ensures { result ≡ abs_of x }
 {
     if x != x {
         x
@@ -43,7 +46,7 @@ pub fn max(a: f64, b: f64) -> f64
 
 // The larger of m and the magnitude of a, and infinite where a is not finite.
 pub fn larger_abs(m: f64, a: f64) -> f64
-    ensures { result ≡ largerAbs m a }
+    ensures { result ≡ larger_abs m a }
 {
     if is_finite(a) {
         max(m, abs(a))
@@ -54,7 +57,7 @@ pub fn larger_abs(m: f64, a: f64) -> f64
 
 // The largest magnitude, and infinite where a number is not finite.
 pub fn max_abs(v: &[f64]) -> f64
-    ensures { result ≡ maxAbsOf v.now }
+    ensures { result ≡ max_abs_of v.now }
 {
     let mut m = 0.0;
     for i in 0..v.len() {
@@ -65,7 +68,7 @@ pub fn max_abs(v: &[f64]) -> f64
 
 // The place of x in the order of magnitudes.
 pub fn magnitude(x: f64) -> u64
-    ensures { result ≡ magnitudeOf x }
+    ensures { result ≡ magnitude_of x }
 {
     if x != x {
         0x7ff8_0000_0000_0000
@@ -108,7 +111,7 @@ pub fn clear(s: &mut [f64])
 
 // As much of `from` as there is room for goes to the head of `to`.
 pub fn copy(from: &[f64], to: &mut [f64])
-    ensures { to.new ≡ copiedOf from.now to.old }
+    ensures { to.new ≡ copied_of from.now to.old }
 {
     let n = smaller(from.len(), to.len());
     for i in 0..n {

@@ -7,24 +7,24 @@ use borrow.Author.Tests.{eqb-true}
 use lib.Dec.{eqb}
 use Rattle.loops.proofs.Picks.{of-cond}
 use Rattle.loops.specs.Turns.{fold}
-use Rattle.spelling.proofs.Forms.{Reads, parted, then-reads, as-reads, pick, pickText, pick-reads}
+use Rattle.spelling.proofs.Forms.{Reads, parted, then-reads, as-reads, pick, pick_text, pick-reads}
 use Rattle.spelling.proofs.Steps.{never, starts}
-use Rattle.spelling.specs.Places.{eatOf}
+use Rattle.spelling.specs.Places.{eat_of}
 use Rattle.spelling.specs.declared.Cursor.{Cursor}
 use Rattle.phrases.specs.Equations as E
-use Rattle.phrases.specs.Fields.{pastFields}
-use Rattle.phrases.specs.Kinds.{name_of, orNamed, trying, otherKinds, kind_at}
+use Rattle.phrases.specs.Fields.{past_fields}
+use Rattle.phrases.specs.Kinds.{name_of, or_named, trying, other_kinds, kind_at}
 use Rattle.phrases.specs.Measures as M
 use Rattle.phrases.specs.declared.KindRead.{KindRead}
 use Rattle.phrases.specs.declared.MeasureRead.{MeasureRead}
-use Rattle.sketch.specs.Kinds.{fields_of, kind_of, measuredFields}
-use Rattle.sketch.specs.Made.{equationOf, measureOf, five}
+use Rattle.sketch.specs.Kinds.{fields_of, kind_of, measured_fields}
+use Rattle.sketch.specs.Made.{equation_of, measure_of, five}
 use Rattle.sketch.specs.declared.Gauge.{Gauge}
 use Rattle.sketch.specs.declared.Kind.{Kind}
 use Rattle.grammar.specs.Job.{EquationItem, MeasureItem, EquationFits, MeasureFits}
-use Rattle.grammar.specs.Meaning.{activeOf, measuredOf}
-use Rattle.grammar.specs.Printed.{equationText, measureText}
-use Rattle.grammar.proofs.FieldForms.{readFields, operands-are, fields-part, fields-reads}
+use Rattle.grammar.specs.Meaning.{active_of, measured_of}
+use Rattle.grammar.specs.Printed.{equation_text, measure_text}
+use Rattle.grammar.proofs.FieldForms.{read_fields, operands-are, fields-part, fields-reads}
 
 -- all but the last of a row of kinds, and the last one
 abbrev front : Kind → List Kind → List Kind
@@ -38,15 +38,15 @@ last k (j ∷ l) = last j l
 module _ (s : List ℕ) (c : Cursor) where
   -- a kind's name, tried
   abbrev tried : Kind → KindRead
-  tried k = record { kind = k; next = fold (eatOf s) c (name_of k) }
+  tried k = record { kind = k; next = fold (eat_of s) c (name_of k) }
 
   stays : (r : KindRead) (l : List Kind) → r.next.ok ≡ true → trying s c r l ≡ r
-  unfolding trying orNamed
+  unfolding trying or_named
   stays r [] h = refl
   stays r (k ∷ l) h = ap (λ b. trying s c (cond b r (tried k)) l) h ∙ stays r l h
 
   trying-is : (k : Kind) (l : List Kind) → trying s c (tried k) l ≡ tried (pick name_of s c (front k l) (last k l))
-  unfolding trying orNamed pick
+  unfolding trying or_named pick
   trying-is k [] = refl
   trying-is k (j ∷ l) = go (tried k).next.ok refl (trying-is j l)
     where
@@ -56,7 +56,7 @@ module _ (s : List ℕ) (c : Cursor) where
       go false e f = f
 
 abbrev kinds : List Kind
-kinds = front Kind.Coincident otherKinds
+kinds = front Kind.Coincident other_kinds
 
 -- a name that goes on with a letter is another name
 no-letter : (b : ℕ) (w t : List ℕ) → eqb 44 b ≡ false → eqb 10 b ≡ false → parted t ≡ true → starts (b ∷ w) t ≡ false
@@ -68,7 +68,7 @@ no-letter b w (x ∷ t) p q h = go (eqb x 44) (eqb x 10) refl refl h
     go false true e f k = rw (eqb-true x 10 f, q)
     go false false e f k = absurd (never _ refl k)
 
-found : (k : Kind) (t : List ℕ) → parted t ≡ true → pickText name_of kinds Kind.Symmetric (name_of k ++ t) ≡ k
+found : (k : Kind) (t : List ℕ) → parted t ≡ true → pick_text name_of kinds Kind.Symmetric (name_of k ++ t) ≡ k
 found Kind.Coincident t h = refl
 found Kind.Level t h = refl
 found Kind.Parallel t h = refl
@@ -94,39 +94,39 @@ found Kind.EqualRadius t h = refl
 kind-reads : Reads name_of (λ _. Unit {0}) (λ s c. (kind_at s c).kind) (λ s c. (kind_at s c).next) parted
 kind-reads =
     as-reads (λ k. k) (λ k. k) (λ b. refl) (λ b. refl) (λ a. refl) (λ b h. h) (λ a h. h)
-    (λ s c. ap (λ r. r.kind) (trying-is s c Kind.Coincident otherKinds)) (λ s c. ap (λ r. r.next) (trying-is s c Kind.Coincident otherKinds))
+    (λ s c. ap (λ r. r.kind) (trying-is s c Kind.Coincident other_kinds)) (λ s c. ap (λ r. r.next) (trying-is s c Kind.Coincident other_kinds))
     (pick-reads name_of kinds Kind.Symmetric parted found)
 
-abbrev pub readEquation : List ℕ → Cursor → EquationItem
-readEquation s c = let k = kind_at s c in record { kind = k.kind; contents = readFields (fields_of k.kind) s k.next }
+abbrev pub read_equation : List ℕ → Cursor → EquationItem
+read_equation s c = let k = kind_at s c in record { kind = k.kind; contents = read_fields (fields_of k.kind) s k.next }
 
-nextEquation : List ℕ → Cursor → Cursor
-nextEquation s c = let k = kind_at s c in pastFields s (fields_of k.kind) k.next
+next_equation : List ℕ → Cursor → Cursor
+next_equation s c = let k = kind_at s c in past_fields s (fields_of k.kind) k.next
 
-equation-at : (s : List ℕ) (c : Cursor) → E.equationAt s c ≡ record { equation = (activeOf (readEquation s c)).equation; next = nextEquation s c }
-unfolding E.equationAt nextEquation
+equation-at : (s : List ℕ) (c : Cursor) → E.equation_at s c ≡ record { equation = (active_of (read_equation s c)).equation; next = next_equation s c }
+unfolding E.equation_at next_equation
 equation-at s c =
     let k = kind_at s c in
-    ap (λ f. record { equation = equationOf k.kind (five f); next = pastFields s (fields_of k.kind) k.next }) (operands-are (fields_of k.kind) s k.next)
+    ap (λ f. record { equation = equation_of k.kind (five f); next = past_fields s (fields_of k.kind) k.next }) (operands-are (fields_of k.kind) s k.next)
 
-pub equation-is : (s : List ℕ) (c : Cursor) → (E.equationAt s c).equation ≡ (activeOf (readEquation s c)).equation
+pub equation-is : (s : List ℕ) (c : Cursor) → (E.equation_at s c).equation ≡ (active_of (read_equation s c)).equation
 equation-is s c = ap (λ r. r.equation) (equation-at s c)
 
-pub equation-reads : Reads equationText EquationFits readEquation (λ s c. (E.equationAt s c).next) parted
-unfolding nextEquation
+pub equation-reads : Reads equation_text EquationFits read_equation (λ s c. (E.equation_at s c).next) parted
+unfolding next_equation
 equation-reads =
     as-reads (λ p. record { kind = p.0; contents = p.1 }) (λ e. (e.kind, e.contents)) (λ b. refl) (λ b. refl) (λ a. refl) (λ b h. (tt, h)) (λ a h. h.1)
     (λ s c. refl) (λ s c. ap (λ r. r.next) (equation-at s c))
     (then-reads kind-reads (λ k. fields-reads (fields_of k)) (λ k. fields-part (fields_of k)))
 
 -- Measures: one of five names, and the fields of that kind without its value.
-abbrev gaugeName : Gauge → List ℕ
-gaugeName g = name_of (kind_of g)
+abbrev gauge_name : Gauge → List ℕ
+gauge_name g = name_of (kind_of g)
 
 abbrev gauges : List Gauge
 gauges = Gauge.Distance ∷ Gauge.AxisDistance ∷ Gauge.Length ∷ Gauge.PointLine ∷ []
 
-gauge-found : (g : Gauge) (t : List ℕ) → parted t ≡ true → pickText gaugeName gauges Gauge.Radius (gaugeName g ++ t) ≡ g
+gauge-found : (g : Gauge) (t : List ℕ) → parted t ≡ true → pick_text gauge_name gauges Gauge.Radius (gauge_name g ++ t) ≡ g
 gauge-found Gauge.Distance t h = refl
 gauge-found Gauge.AxisDistance t h = refl
 gauge-found Gauge.Length t h = refl
@@ -135,42 +135,42 @@ gauge-found Gauge.Radius t h = refl
 
 module _ (s : List ℕ) (c : Cursor) where
   abbrev gauged : Gauge → MeasureRead
-  gauged g = M.gaugedAt s g (fold (eatOf s) c (gaugeName g))
+  gauged g = M.gauged_at s g (fold (eat_of s) c (gauge_name g))
 
-  named-is : (g : Gauge) (l : List Gauge) (d : Gauge) (other : MeasureRead) → other ≡ gauged (pick gaugeName s c l d)
-      → M.named s c g other ≡ gauged (pick gaugeName s c (g ∷ l) d)
+  named-is : (g : Gauge) (l : List Gauge) (d : Gauge) (other : MeasureRead) → other ≡ gauged (pick gauge_name s c l d)
+      → M.named s c g other ≡ gauged (pick gauge_name s c (g ∷ l) d)
   unfolding M.named pick
   named-is g l d other e =
-      let b = (fold (eatOf s) c (gaugeName g)).ok in
-      ap (λ r. cond b (gauged g) r) e ∙ of-cond gauged b g (pick gaugeName s c l d)
+      let b = (fold (eat_of s) c (gauge_name g)).ok in
+      ap (λ r. cond b (gauged g) r) e ∙ of-cond gauged b g (pick gauge_name s c l d)
 
-  measure-gauged : M.measureAt s c ≡ gauged (pick gaugeName s c gauges Gauge.Radius)
-  unfolding M.measureAt pick
+  measure-gauged : M.measure_at s c ≡ gauged (pick gauge_name s c gauges Gauge.Radius)
+  unfolding M.measure_at pick
   measure-gauged =
       named-is Gauge.Distance (Gauge.AxisDistance ∷ Gauge.Length ∷ Gauge.PointLine ∷ []) Gauge.Radius _
       (named-is Gauge.AxisDistance (Gauge.Length ∷ Gauge.PointLine ∷ []) Gauge.Radius _ (named-is Gauge.Length (Gauge.PointLine ∷ []) Gauge.Radius _ (named-is Gauge.PointLine [] Gauge.Radius _ refl)))
 
-abbrev pub readMeasure : List ℕ → Cursor → MeasureItem
-readMeasure s c =
-    let g = pick gaugeName s c gauges Gauge.Radius in
-    record { gauge = g; contents = readFields (measuredFields g) s (fold (eatOf s) c (gaugeName g)) }
+abbrev pub read_measure : List ℕ → Cursor → MeasureItem
+read_measure s c =
+    let g = pick gauge_name s c gauges Gauge.Radius in
+    record { gauge = g; contents = read_fields (measured_fields g) s (fold (eat_of s) c (gauge_name g)) }
 
-nextMeasure : List ℕ → Cursor → Cursor
-nextMeasure s c = let g = pick gaugeName s c gauges Gauge.Radius in pastFields s (measuredFields g) (fold (eatOf s) c (gaugeName g))
+next_measure : List ℕ → Cursor → Cursor
+next_measure s c = let g = pick gauge_name s c gauges Gauge.Radius in past_fields s (measured_fields g) (fold (eat_of s) c (gauge_name g))
 
-measure-at : (s : List ℕ) (c : Cursor) → M.measureAt s c ≡ record { measure = (measuredOf (readMeasure s c)).measure; next = nextMeasure s c }
-unfolding M.gaugedAt nextMeasure
+measure-at : (s : List ℕ) (c : Cursor) → M.measure_at s c ≡ record { measure = (measured_of (read_measure s c)).measure; next = next_measure s c }
+unfolding M.gauged_at next_measure
 measure-at s c =
-    let g = pick gaugeName s c gauges Gauge.Radius in
-    let d = fold (eatOf s) c (gaugeName g) in
-    measure-gauged s c ∙ ap (λ f. record { measure = measureOf g (five f); next = pastFields s (measuredFields g) d }) (operands-are (measuredFields g) s d)
+    let g = pick gauge_name s c gauges Gauge.Radius in
+    let d = fold (eat_of s) c (gauge_name g) in
+    measure-gauged s c ∙ ap (λ f. record { measure = measure_of g (five f); next = past_fields s (measured_fields g) d }) (operands-are (measured_fields g) s d)
 
-pub measure-is : (s : List ℕ) (c : Cursor) → (M.measureAt s c).measure ≡ (measuredOf (readMeasure s c)).measure
+pub measure-is : (s : List ℕ) (c : Cursor) → (M.measure_at s c).measure ≡ (measured_of (read_measure s c)).measure
 measure-is s c = ap (λ r. r.measure) (measure-at s c)
 
-pub measure-reads : Reads measureText MeasureFits readMeasure (λ s c. (M.measureAt s c).next) parted
-unfolding nextMeasure
+pub measure-reads : Reads measure_text MeasureFits read_measure (λ s c. (M.measure_at s c).next) parted
+unfolding next_measure
 measure-reads =
     as-reads (λ p. record { gauge = p.0; contents = p.1 }) (λ m. (m.gauge, m.contents)) (λ b. refl) (λ b. refl) (λ a. refl) (λ b h. (tt, h)) (λ a h. h.1)
     (λ s c. refl) (λ s c. ap (λ r. r.next) (measure-at s c))
-    (then-reads (pick-reads gaugeName gauges Gauge.Radius parted gauge-found) (λ g. fields-reads (measuredFields g)) (λ g. fields-part (measuredFields g)))
+    (then-reads (pick-reads gauge_name gauges Gauge.Radius parted gauge-found) (λ g. fields-reads (measured_fields g)) (λ g. fields-part (measured_fields g)))

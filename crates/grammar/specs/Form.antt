@@ -2,12 +2,12 @@
 use Rattle.std.specs.Prelude.{List, ◌++◌, ◌↔◌, ◌≡◌, ℕ, ◌≤◌, ◌<◌, length}
 use Rattle.sketch.specs.declared.Build.{Build}
 use Rattle.sketch.specs.declared.Ending.{Ending}
-use Rattle.text.specs.Reader.{refusedWith}
+use Rattle.text.specs.Reader.{refused_with}
 use Rattle.text.specs.declared.Outcome.{Outcome}
 use Rattle.text.specs.declared.Reading.{Reading}
-use Rattle.grammar.specs.Job.{Counts, CountsFit, countsOf, Job, Writable}
-use Rattle.grammar.specs.Meaning.{buildOf}
-use Rattle.grammar.specs.Printed.{countsText, jobText}
+use Rattle.grammar.specs.Job.{Counts, CountsFit, counts_of, Job, Writable}
+use Rattle.grammar.specs.Meaning.{build_of}
+use Rattle.grammar.specs.Printed.{counts_text, job_text}
 
 -- every count within its bound
 abbrev pub Bounded : Counts → Type 0
@@ -16,8 +16,8 @@ Bounded n = (n.points ≤ 40) × (n.lines ≤ 40) × (n.equations ≤ 40) × (n.
 -- s is the text of the job j
 pub record Writes (s : List ℕ) (j : Job) : Type 0 where
   pub fits : Writable j
-  pub bounded : Bounded (countsOf j)
-  pub text : s ≡ jobText j
+  pub bounded : Bounded (counts_of j)
+  pub text : s ≡ job_text j
 
 -- s begins with the four count lines, and a count is over its bound
 pub record Exceeds (s : List ℕ) : Type 0 where
@@ -25,15 +25,15 @@ pub record Exceeds (s : List ℕ) : Type 0 where
   pub fits : CountsFit counts
   pub over : Bounded counts → ⊥
   pub after : List ℕ
-  pub text : s ≡ countsText counts ++ after
+  pub text : s ≡ counts_text counts ++ after
 
 -- the four answers, each given exactly when its row says
 pub record ReadsForm (s : List ℕ) (r : Reading) : Type 0 where
-  pub one : r ≡ refusedWith Ending.TooLong ↔ 16384 < length s
-  pub two : r ≡ refusedWith Ending.BadForm ↔ (length s ≤ 16384) × (Exceeds s → ⊥) × ((j : Job) → Writes s j → ⊥)
-  pub three : r ≡ refusedWith Ending.TooMany ↔ (length s ≤ 16384) × Exceeds s
-  pub whole : (b : Build) → r ≡ record { outcome = Outcome.Read; build = b } ↔ (length s ≤ 16384) × ((j : Job) × Writes s j × (b ≡ buildOf j))
+  pub one : r ≡ refused_with Ending.TooLong ↔ 16384 < length s
+  pub two : r ≡ refused_with Ending.BadForm ↔ (length s ≤ 16384) × (Exceeds s → ⊥) × ((j : Job) → Writes s j → ⊥)
+  pub three : r ≡ refused_with Ending.TooMany ↔ (length s ≤ 16384) × Exceeds s
+  pub whole : (b : Build) → r ≡ record { outcome = Outcome.Read; build = b } ↔ (length s ≤ 16384) × ((j : Job) × Writes s j × (b ≡ build_of j))
 
 -- each text is one job's
 abbrev pub OneReading : Type 0
-OneReading = (j k : Job) → Writable j → Writable k → jobText j ≡ jobText k → j ≡ k
+OneReading = (j k : Job) → Writable j → Writable k → job_text j ≡ job_text k → j ≡ k

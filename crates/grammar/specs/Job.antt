@@ -1,7 +1,7 @@
 -- A job as it is written (document 01, "The text"): point and line numbers as they stand there, and floats by the patterns of their
 -- bits, since a NaN has many patterns and one value. A count is the length of its list.
 use Rattle.std.specs.Prelude.{List, [], ◌∷◌, ℕ, ◌<◌, length}
-use Rattle.sketch.specs.Kinds.{fields_of, measuredFields}
+use Rattle.sketch.specs.Kinds.{fields_of, measured_fields}
 use Rattle.sketch.specs.declared.Gauge.{Gauge}
 use Rattle.sketch.specs.declared.Kind.{Kind}
 use Rattle.sketch.specs.declared.Sort.{Sort}
@@ -19,14 +19,14 @@ Each P [] = Unit {0}
 Each P (a ∷ l) = P a × Each P l
 
 pub data Axis : Type 0 where
-  axisX axisY : Axis
+  axis_x axis_y : Axis
 
 pub data Sign : Type 0 where
   plus minus : Sign
 
 -- a radius by a point, or a plain one
 pub data Radius : Type 0 where
-  byPoint plain : ℕ → Radius
+  by_point plain : ℕ → Radius
 
 pub data Touch : Type 0 where
   outside : Touch
@@ -43,7 +43,7 @@ Content Sort.Radius = Radius
 Content Sort.Contact = Touch
 
 abbrev pub RadiusFits : Radius → Type 0
-RadiusFits (byPoint n) = Whole n
+RadiusFits (by_point n) = Whole n
 RadiusFits (plain b) = Pattern b
 
 abbrev pub ContentFits : (f : Sort) → Content f → Type 0
@@ -86,7 +86,7 @@ pub record EquationItem : Type 0 where
 
 pub record MeasureItem : Type 0 where
   pub gauge : Gauge
-  pub contents : Contents (measuredFields gauge)
+  pub contents : Contents (measured_fields gauge)
 
 pub record Job : Type 0 where
   pub centre : Place
@@ -115,7 +115,7 @@ abbrev pub EquationFits : EquationItem → Type 0
 EquationFits e = ContentsFit (fields_of e.kind) e.contents
 
 abbrev pub MeasureFits : MeasureItem → Type 0
-MeasureFits m = ContentsFit (measuredFields m.gauge) m.contents
+MeasureFits m = ContentsFit (measured_fields m.gauge) m.contents
 
 -- the four counts
 pub record Counts : Type 0 where
@@ -124,8 +124,8 @@ pub record Counts : Type 0 where
   pub equations : ℕ
   pub measures : ℕ
 
-abbrev pub countsOf : Job → Counts
-countsOf j = record { points = length j.points; lines = length j.lines; equations = length j.equations; measures = length j.measures }
+abbrev pub counts_of : Job → Counts
+counts_of j = record { points = length j.points; lines = length j.lines; equations = length j.equations; measures = length j.measures }
 
 abbrev pub CountsFit : Counts → Type 0
 CountsFit n = Whole n.points × Whole n.lines × Whole n.equations × Whole n.measures
@@ -137,4 +137,4 @@ pub record Writable (j : Job) : Type 0 where
   pub lines : Each LineFits j.lines
   pub equations : Each EquationFits j.equations
   pub measures : Each MeasureFits j.measures
-  pub counts : CountsFit (countsOf j)
+  pub counts : CountsFit (counts_of j)

@@ -4,10 +4,10 @@ use Rattle.std.specs.Float.{binary64}
 use Rattle.std.specs.Float.Ieee.{of_bits, neg}
 use Rattle.floats.specs.Ops.{one}
 use Rattle.plane.specs.declared.Vec2.{Vec2}
-use Rattle.sketch.specs.Blank.{blankPoint, blankActive, blankMeasured, filled}
-use Rattle.sketch.specs.Involved.{noLine}
-use Rattle.sketch.specs.Kinds.{fields_of, measuredFields}
-use Rattle.sketch.specs.Made.{pointNo, lineNo, equationFrom, measureFrom, Stands, Row, rowFields}
+use Rattle.sketch.specs.Blank.{blank_point, blank_active, blank_measured, filled}
+use Rattle.sketch.specs.Involved.{no_line}
+use Rattle.sketch.specs.Kinds.{fields_of, measured_fields}
+use Rattle.sketch.specs.Made.{point_no, line_no, equation_from, measure_from, Stands, Row, row_fields}
 use Rattle.sketch.specs.declared.Active.{Active}
 use Rattle.sketch.specs.declared.Build.{Build}
 use Rattle.sketch.specs.declared.Contact.{Contact}
@@ -17,40 +17,40 @@ use Rattle.sketch.specs.declared.Point.{Point}
 use Rattle.sketch.specs.declared.Rad.{Rad}
 use Rattle.sketch.specs.declared.Sort.{Sort}
 use Rattle.sketch.specs.declared.State.{State}
-use Rattle.grammar.specs.Job.{Axis, axisX, axisY, Sign, plus, minus, Radius, byPoint, plain, Touch, outside, inside, Content, Contents, Place, Standing, free, kept, placed, PointItem, LineItem, EquationItem, MeasureItem, Job}
+use Rattle.grammar.specs.Job.{Axis, axis_x, axis_y, Sign, plus, minus, Radius, by_point, plain, Touch, outside, inside, Content, Contents, Place, Standing, free, kept, placed, PointItem, LineItem, EquationItem, MeasureItem, Job}
 
 abbrev pub float_of : ℕ → Float
 float_of b = of_bits binary64 b
 
-abbrev pub axisOf : Axis → ℕ
-axisOf axisX = 0
-axisOf axisY = 1
+abbrev pub axis_of : Axis → ℕ
+axis_of axis_x = 0
+axis_of axis_y = 1
 
 abbrev pub sign_of : Sign → Float
 sign_of plus = one
 sign_of minus = neg one
 
-abbrev pub radOf : Radius → Rad
-radOf (byPoint n) = Rad.Point (pointNo n)
-radOf (plain b) = Rad.Value (float_of b)
+abbrev pub rad_of : Radius → Rad
+rad_of (by_point n) = Rad.Point (point_no n)
+rad_of (plain b) = Rad.Value (float_of b)
 
-abbrev pub contactOf : Touch → Contact
-contactOf outside = Contact.Outside
-contactOf (inside k) = Contact.Inside (sign_of k)
+abbrev pub contact_of : Touch → Contact
+contact_of outside = Contact.Outside
+contact_of (inside k) = Contact.Inside (sign_of k)
 
 -- what stands in the fields
-abbrev pub meantOf : (f : Sort) → Content f → Stands f
-meantOf Sort.Point n = pointNo n
-meantOf Sort.Line n = lineNo n
-meantOf Sort.Value b = float_of b
-meantOf Sort.Axis a = axisOf a
-meantOf Sort.Side k = sign_of k
-meantOf Sort.Radius r = radOf r
-meantOf Sort.Contact o = contactOf o
+abbrev pub meant_of : (f : Sort) → Content f → Stands f
+meant_of Sort.Point n = point_no n
+meant_of Sort.Line n = line_no n
+meant_of Sort.Value b = float_of b
+meant_of Sort.Axis a = axis_of a
+meant_of Sort.Side k = sign_of k
+meant_of Sort.Radius r = rad_of r
+meant_of Sort.Contact o = contact_of o
 
-abbrev pub meansOf : (l : List Sort) → Contents l → Row l
-meansOf [] v = tt
-meansOf (f ∷ l) v = (meantOf f v.0, meansOf l v.1)
+abbrev pub means_of : (l : List Sort) → Contents l → Row l
+means_of [] v = tt
+means_of (f ∷ l) v = (meant_of f v.0, means_of l v.1)
 
 abbrev pub vec_of : Place → Vec2
 vec_of p = record { x = float_of p.x; y = float_of p.y }
@@ -64,24 +64,24 @@ abbrev pub point_of : PointItem → Point
 point_of p = record { start = vec_of p.start; state = state_of p.standing }
 
 abbrev pub line_of : LineItem → Line
-line_of l = record { from = pointNo l.from; to = pointNo l.to }
+line_of l = record { from = point_no l.from; to = point_no l.to }
 
-abbrev pub activeOf : EquationItem → Active
-activeOf e = let l = fields_of e.kind in record { equation = equationFrom e.kind (rowFields l (meansOf l e.contents)) }
+abbrev pub active_of : EquationItem → Active
+active_of e = let l = fields_of e.kind in record { equation = equation_from e.kind (row_fields l (means_of l e.contents)) }
 
-abbrev pub measuredOf : MeasureItem → Measured
-measuredOf m = let l = measuredFields m.gauge in record { measure = measureFrom m.gauge (rowFields l (meansOf l m.contents)) }
+abbrev pub measured_of : MeasureItem → Measured
+measured_of m = let l = measured_fields m.gauge in record { measure = measure_from m.gauge (row_fields l (means_of l m.contents)) }
 
-abbrev pub buildOf : Job → Build
-buildOf j = record {
+abbrev pub build_of : Job → Build
+build_of j = record {
   centre = vec_of j.centre;
   size = float_of j.size;
-  points = filled 40 blankPoint (map point_of j.points);
+  points = filled 40 blank_point (map point_of j.points);
   point_count = length j.points;
-  lines = filled 40 noLine (map line_of j.lines);
+  lines = filled 40 no_line (map line_of j.lines);
   line_count = length j.lines;
-  equations = filled 40 blankActive (map activeOf j.equations);
+  equations = filled 40 blank_active (map active_of j.equations);
   equation_count = length j.equations;
-  measures = filled 20 blankMeasured (map measuredOf j.measures);
+  measures = filled 20 blank_measured (map measured_of j.measures);
   measure_count = length j.measures;
 }

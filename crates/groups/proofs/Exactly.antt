@@ -6,17 +6,17 @@ use mathlib.Core.Path.{◌≡◌, refl, sym, ap, ◌∙◌}
 use native.Mathlib.Decide.{dec_lt}
 use native.Mathlib.Omega.{arith}
 use lib.ListN.{length, get_or}
-use Rattle.groups.specs.Chains.{Touches, Tied, pointsIn, Lowest, GroupsAreChains}
-use Rattle.groups.specs.Listed.{listPoints, groups_of}
+use Rattle.groups.specs.Chains.{Touches, Tied, points_in, Lowest, GroupsAreChains}
+use Rattle.groups.specs.Listed.{list_points, groups_of}
 use Rattle.groups.specs.Parents.{alone, joined}
-use Rattle.groups.specs.Tied.{tiedOf}
+use Rattle.groups.specs.Tied.{tied_of}
 use Rattle.groups.specs.declared.Grouping.{Grouping}
 use Rattle.groups.proofs.Forest.{rt, rt-low, rt-rt}
 use Rattle.groups.proofs.Listings.{Listed, points_kept, points-listed, root-leads, owner, owned, equation-sized, equation-old, equation-new}
 use Rattle.groups.proofs.Numbers.{Leads, before, lead-tied, lead-root, before-le, before-mono, before-lt, before-find}
 use Rattle.groups.proofs.Places.{rises, place-holds, placed}
 use Rattle.groups.proofs.Roots.{Good, good, chain-root, root-chain, root_tied}
-use Rattle.groups.proofs.Ties.{tiedAt, tied-all, tied-only}
+use Rattle.groups.proofs.Ties.{tied_at, tied-all, tied-only}
 
 module _ (t : ℕ → List ℕ) (n : ℕ) (few : n ≤ 40) (inside : (k p : ℕ) → Touches t k p → p < 40) (active : (k p : ℕ) → Touches t k p → k < n) where
   -- the parents once all is joined, the tied points, and the groups
@@ -24,7 +24,7 @@ module _ (t : ℕ → List ℕ) (n : ℕ) (few : n ≤ 40) (inside : (k p : ℕ)
   P = joined t n alone
 
   abbrev W : List Bool
-  W = tiedOf t n
+  W = tied_of t n
 
   abbrev g : Grouping
   g = groups_of t n
@@ -36,13 +36,13 @@ module _ (t : ℕ → List ℕ) (n : ℕ) (few : n ≤ 40) (inside : (k p : ℕ)
   goods : Good t n P
   goods = good t n inside
 
-  yes-tied : (p : ℕ) → Tied t p → tiedAt W p ≡ true
+  yes-tied : (p : ℕ) → Tied t p → tied_at W p ≡ true
   yes-tied p m = tied-all t n inside m.0 p (active m.0 p m.1) m.1
 
-  above : (p : ℕ) → tiedAt W p ≡ true → tiedAt W (rt P p) ≡ true
+  above : (p : ℕ) → tied_at W p ≡ true → tied_at W (rt P p) ≡ true
   above p e = yes-tied (rt P p) (root_tied t n P goods active p (tied-only t n inside p e))
 
-  listed : Listed W P 40 (listPoints W P).answer
+  listed : Listed W P 40 (list_points W P).answer
   listed = points-listed W P goods.falls above
 
   below : (p : ℕ) → Tied t p → p < 40
@@ -72,9 +72,9 @@ module _ (t : ℕ → List ℕ) (n : ℕ) (few : n ≤ 40) (inside : (k p : ℕ)
   -- 40 is no group's number
   point_tied : (p j : ℕ) → j < g.count → get_or g.of_point p 40 ≡ j → Tied t p
   unfolding groups_of
-  point_tied p j h e = go (tiedAt W p) refl
+  point_tied p j h e = go (tied_at W p) refl
     where
-      go : (b : Bool) → tiedAt W p ≡ b → Tied t p
+      go : (b : Bool) → tied_at W p ≡ b → Tied t p
       go true q = tied-only t n inside p q
       go false q = absurd (omega (arith, count_small, sym (listed.point-not p q) ∙ e))
 
@@ -87,7 +87,7 @@ module _ (t : ℕ → List ℕ) (n : ℕ) (few : n ≤ 40) (inside : (k p : ℕ)
       go (no m) (no k) = omega arith
 
   -- a point's root is listed with it, and has no lower number
-  root-place : (p j : ℕ) → Tied t p → get_or g.of_point p 40 ≡ j → Memᴰ (rt P p) (pointsIn g j)
+  root-place : (p j : ℕ) → Tied t p → get_or g.of_point p 40 ≡ j → Memᴰ (rt P p) (points_in g j)
   root-place p j m e =
       let r = root_tied t n P goods active p m in
       placed g.of_point j (rt P p) (rw points-length (below (rt P p) r))
@@ -95,18 +95,18 @@ module _ (t : ℕ → List ℕ) (n : ℕ) (few : n ≤ 40) (inside : (k p : ℕ)
 
   -- the group of an equation
   index : List ℕ
-  index = (listPoints W P).answer.index
+  index = (list_points W P).answer.index
 
   equations-length : length g.of_equation ≡ 40
   unfolding groups_of index
-  equations-length = equation-sized P index t n few (listPoints W P).parents (points_kept W P goods.falls above)
+  equations-length = equation-sized P index t n few (list_points W P).parents (points_kept W P goods.falls above)
 
   equation-is : (k p : ℕ) → Touches t k p → get_or g.of_equation k 40 ≡ number_at p
   unfolding groups_of index
   equation-is k p m =
       let o = owner P index (t k) p m in
       let a : Tied t o.0 = (k, o.1) in
-      equation-old P index t n few (listPoints W P).parents (points_kept W P goods.falls above) k (active k p m)
+      equation-old P index t n few (list_points W P).parents (points_kept W P goods.falls above) k (active k p m)
       ∙ o.2
       ∙ listed.index-old (rt P o.0) (omega (arith, rt-low P goods.falls o.0, below o.0 a)) (leading o.0 a)
       ∙ ap (before W P) (goods.whole k o.0 p (active k p m) o.1 m)
@@ -121,13 +121,13 @@ module _ (t : ℕ → List ℕ) (n : ℕ) (few : n ≤ 40) (inside : (k p : ℕ)
           (λ z. omega (
             arith,
             count_small,
-            sym e ∙ equation-old P index t n few (listPoints W P).parents (points_kept W P goods.falls above) k l ∙ z,
+            sym e ∙ equation-old P index t n few (list_points W P).parents (points_kept W P goods.falls above) k l ∙ z,
           ))
       go (no l) =
           absurd (omega (
             arith,
             count_small,
-            sym e ∙ equation-new P index t n few (listPoints W P).parents (points_kept W P goods.falls above) k (omega arith),
+            sym e ∙ equation-new P index t n few (list_points W P).parents (points_kept W P goods.falls above) k (omega arith),
           ))
 
   lowest : (j : ℕ) → j < g.count → (p : ℕ) × Lowest g j p

@@ -1,8 +1,8 @@
 -- Laws of the parents. `rt ps x` is the root of x with no path halved; halving keeps every root, and a join makes the larger
 -- root's points the smaller's.
---     root-next, root-done  `rootOf` goes as the Rust's loop does
---     Kept                  parents with the same roots; what `rootOf` leaves
---     root_is               what `rootOf` answers
+--     root-next, root-done  `root_of` goes as the Rust's loop does
+--     Kept                  parents with the same roots; what `root_of` leaves
+--     root_is               what `root_of` answers
 --     join-roots            the roots after a join
 -- Assumes nothing.
 use Prim.Native.Nat.{ℕ, zero, suc, ◌+◌, ◌≤◌, ◌<◌, max, min}
@@ -17,8 +17,8 @@ use borrow.Author.Tests.{eqb-true, eqb-false, eq-eqb, ne_eqb}
 use lib.Dec.{eqb}
 use lib.ListN.{length, set, replicate, length-set, get_or-eq_default}
 use lib.Seq.{get_or-set_same, get_or-set_other, set_out}
-use Rattle.groups.specs.Parents.{up, Falls, halved, climb, rootOf, joinTo, selfAt, alone}
-use Rattle.loops.proofs.Keeps.{upTo-keeps}
+use Rattle.groups.specs.Parents.{up, Falls, halved, climb, root_of, join_to, self_at, alone}
+use Rattle.loops.proofs.Keeps.{up_to-keeps}
 
 -- after a store a point's parent is what was stored, or what it was
 stored : (ps : List ℕ) (x v y : ℕ) → ((y ≡ x) × (up (set ps x v) y ≡ v)) ⊎ (up (set ps x v) y ≡ up ps y)
@@ -51,46 +51,46 @@ halved-up ps x = go (dec_lt x (length ps))
         q ∙ ap (λ y. up ps y) (sym e)
 
 -- the root, without halving: as many steps up as x
-rtIn : ℕ → List ℕ → ℕ → ℕ
-rtIn zero ps x = x
-rtIn (suc k) ps x = rtIn k ps (up ps x)
+rt_in : ℕ → List ℕ → ℕ → ℕ
+rt_in zero ps x = x
+rt_in (suc k) ps x = rt_in k ps (up ps x)
 
 unfoldable pub rt : List ℕ → ℕ → ℕ
-unfolding rtIn
-rt ps x = rtIn x ps x
+unfolding rt_in
+rt ps x = rt_in x ps x
 
-stay : (k : ℕ) (ps : List ℕ) (x : ℕ) → up ps x ≡ x → rtIn k ps x ≡ x
-unfolding rtIn
+stay : (k : ℕ) (ps : List ℕ) (x : ℕ) → up ps x ≡ x → rt_in k ps x ≡ x
+unfolding rt_in
 stay zero ps x e = refl
 stay (suc k) ps x e = rw e (stay k ps x e)
 
-lower : (k : ℕ) (ps : List ℕ) (x : ℕ) → Falls ps → rtIn k ps x ≤ x
-unfolding rtIn
+lower : (k : ℕ) (ps : List ℕ) (x : ℕ) → Falls ps → rt_in k ps x ≤ x
+unfolding rt_in
 lower zero ps x f = omega arith
 lower (suc k) ps x f = omega (arith, f x, lower k ps (up ps x) f)
 
-turned : (k : ℕ) (ps : List ℕ) (x : ℕ) → rtIn k ps (up ps x) ≡ up ps (rtIn k ps x)
-unfolding rtIn
+turned : (k : ℕ) (ps : List ℕ) (x : ℕ) → rt_in k ps (up ps x) ≡ up ps (rt_in k ps x)
+unfolding rt_in
 turned zero ps x = refl
 turned (suc k) ps x = turned k ps (up ps x)
 
-topped : (k : ℕ) (ps : List ℕ) (x : ℕ) → Falls ps → x ≤ k → up ps (rtIn k ps x) ≡ rtIn k ps x
-unfolding rtIn
+topped : (k : ℕ) (ps : List ℕ) (x : ℕ) → Falls ps → x ≤ k → up ps (rt_in k ps x) ≡ rt_in k ps x
+unfolding rt_in
 topped zero ps x f h = omega (arith, f x)
 topped (suc k) ps x f h = go (ℕ_discrete (up ps x) x) (λ l. topped k ps (up ps x) f l)
   where
-    go : Dec (up ps x ≡ x) → (up ps x ≤ k → up ps (rtIn k ps (up ps x)) ≡ rtIn k ps (up ps x))
-        → up ps (rtIn k ps (up ps x)) ≡ rtIn k ps (up ps x)
+    go : Dec (up ps x ≡ x) → (up ps x ≤ k → up ps (rt_in k ps (up ps x)) ≡ rt_in k ps (up ps x))
+        → up ps (rt_in k ps (up ps x)) ≡ rt_in k ps (up ps x)
     go (yes e) r = rw (e, stay k ps x e) e
     go (no n) r = r (omega (arith, f x))
 
 -- more steps than x change nothing
-enough : (k : ℕ) (ps : List ℕ) (x : ℕ) → Falls ps → x ≤ k → rtIn k ps x ≡ rt ps x
-unfolding rtIn rt
+enough : (k : ℕ) (ps : List ℕ) (x : ℕ) → Falls ps → x ≤ k → rt_in k ps x ≡ rt ps x
+unfolding rt_in rt
 enough zero ps x f h = let e : x ≡ 0 = omega arith in rw e
 enough (suc k) ps x f h = go (ℕ_discrete x (suc k)) (λ l. enough k ps x f l)
   where
-    go : Dec (x ≡ suc k) → (x ≤ k → rtIn k ps x ≡ rt ps x) → rtIn (suc k) ps x ≡ rt ps x
+    go : Dec (x ≡ suc k) → (x ≤ k → rt_in k ps x ≡ rt ps x) → rt_in (suc k) ps x ≡ rt ps x
     go (yes e) r = rw e
     go (no n) r = let l : x ≤ k = omega arith in turned k ps x ∙ topped k ps x f l ∙ r l
 
@@ -111,12 +111,12 @@ module _ (ps : List ℕ) (f : Falls ps) where
   rt-rt x = rt-at (rt ps x) (rt-top x)
 
   pub rt-up : (x : ℕ) → rt ps (up ps x) ≡ rt ps x
-  unfolding rtIn
+  unfolding rt_in
   rt-up x = sym (enough x ps (up ps x) f (f x)) ∙ enough (suc x) ps x f (omega arith)
 
   -- the one function that a parent shares with its child and that keeps each root
-  one : (g : ℕ → ℕ) → ((y : ℕ) → g (up ps y) ≡ g y) → (k x : ℕ) → g (rtIn k ps x) ≡ g x
-  unfolding rtIn
+  one : (g : ℕ → ℕ) → ((y : ℕ) → g (up ps y) ≡ g y) → (k x : ℕ) → g (rt_in k ps x) ≡ g x
+  unfolding rt_in
   one g s zero x = refl
   one g s (suc k) x = one g s k (up ps x) ∙ s x
 
@@ -217,13 +217,13 @@ climb-next : (k : ℕ) (ps : List ℕ) (x : ℕ) → up ps x ≢ x → climb (su
 unfolding climb
 climb-next k ps x n = rw (ne_eqb (up ps x) x n)
 
-pub root-done : (ps : List ℕ) (x : ℕ) → up ps x ≡ x → rootOf ps x ≡ record { parents = ps; answer = x }
-unfolding rootOf
+pub root-done : (ps : List ℕ) (x : ℕ) → up ps x ≡ x → root_of ps x ≡ record { parents = ps; answer = x }
+unfolding root_of
 root-done ps x e = climb-done x ps x e
 
 module _ (ps : List ℕ) (x : ℕ) (f : Falls ps) where
-  pub root-next : up ps x ≢ x → rootOf ps x ≡ rootOf (halved ps x) (up (halved ps x) x)
-  unfolding rootOf
+  pub root-next : up ps x ≢ x → root_of ps x ≡ root_of (halved ps x) (up (halved ps x) x)
+  unfolding root_of
   root-next n = go x refl
     where
       go : (k : ℕ) → x ≡ k → climb k ps x ≡ climb (up (halved ps x) x) (halved ps x) (up (halved ps x) x)
@@ -233,12 +233,12 @@ module _ (ps : List ℕ) (x : ℕ) (f : Falls ps) where
           ∙ climb-same k (up (halved ps x) x) (halved ps x) (up (halved ps x) x) (halved-falls ps x f) (turn-lower k ps x f n (omega arith))
           (omega arith)
 
-  pub root_kept : Kept ps (rootOf ps x).parents
-  unfolding rootOf
+  pub root_kept : Kept ps (root_of ps x).parents
+  unfolding root_of
   root_kept = climb-kept x ps x f
 
-  pub root_is : (rootOf ps x).answer ≡ rt ps x
-  unfolding rootOf
+  pub root_is : (root_of ps x).answer ≡ rt ps x
+  unfolding root_of
   root_is = climb-is x ps x f (omega arith)
 
 -- the root r once the root a lies under the root b
@@ -298,30 +298,30 @@ either-min P a b p q = go (dec_lt a b)
 module _ (p : ℕ) (ps : List ℕ) (q : ℕ) (f : Falls ps) where
   -- what the two calls of `root` leave
   left : List ℕ
-  left = (rootOf (rootOf ps p).parents q).parents
+  left = (root_of (root_of ps p).parents q).parents
 
   left-kept : Kept ps left
   unfolding left
   left-kept =
-      kept_trans ps (rootOf ps p).parents left (root_kept ps p f) (root_kept (rootOf ps p).parents q (root_kept ps p f).falls)
+      kept_trans ps (root_of ps p).parents left (root_kept ps p f) (root_kept (root_of ps p).parents q (root_kept ps p f).falls)
 
-  second : (rootOf (rootOf ps p).parents q).answer ≡ rt ps q
-  second = root_is (rootOf ps p).parents q (root_kept ps p f).falls ∙ (root_kept ps p f).roots q
+  second : (root_of (root_of ps p).parents q).answer ≡ rt ps q
+  second = root_is (root_of ps p).parents q (root_kept ps p f).falls ∙ (root_kept ps p f).roots q
 
-  joined_is : joinTo p ps q ≡ set left (max (rt ps p) (rt ps q)) (min (rt ps p) (rt ps q))
-  unfolding joinTo left
+  joined_is : join_to p ps q ≡ set left (max (rt ps p) (rt ps q)) (min (rt ps p) (rt ps q))
+  unfolding join_to left
   joined_is = rw (root_is ps p f, second)
 
-  pub join-falls : Falls (joinTo p ps q)
+  pub join-falls : Falls (join_to p ps q)
   join-falls = rw joined_is (set-falls left _ _ left-kept.falls (omega arith))
 
-  pub join-sized : length (joinTo p ps q) ≡ length ps
+  pub join-sized : length (join_to p ps q) ≡ length ps
   join-sized = rw joined_is (length-set left _ _ ∙ left-kept.sized)
 
   top : (x : ℕ) → up left (rt ps x) ≡ rt ps x
   top x = rw (← left-kept.roots x) (rt-top left left-kept.falls x)
 
-  pub join-roots : p < length ps → q < length ps → (y : ℕ) → rt (joinTo p ps q) y ≡ merged (max (rt ps p) (rt ps q)) (min (rt ps p) (rt ps q)) (rt ps y)
+  pub join-roots : p < length ps → q < length ps → (y : ℕ) → rt (join_to p ps q) y ≡ merged (max (rt ps p) (rt ps q)) (min (rt ps p) (rt ps q)) (rt ps y)
   join-roots h k y =
       rw (joined_is, ← left-kept.roots y)
       (under-roots left left-kept.falls (max (rt ps p) (rt ps q)) (min (rt ps p) (rt ps q))
@@ -334,8 +334,8 @@ module _ (p : ℕ) (ps : List ℕ) (q : ℕ) (f : Falls ps) where
 Own : ℕ → List ℕ → Type 0
 Own i ps = (length ps ≡ 40) × ((x : ℕ) → x < i → up ps x ≡ x)
 
-own-next : (i : ℕ) (ps : List ℕ) → i < 40 → Own i ps → Own (i + 1) (selfAt i ps)
-unfolding Own selfAt
+own-next : (i : ℕ) (ps : List ℕ) → i < 40 → Own i ps → Own (i + 1) (self_at i ps)
+unfolding Own self_at
 own-next i ps h p = (length-set ps i i ∙ p.0, go)
   where
     go : (x : ℕ) → x < i + 1 → up (set ps i i) x ≡ x
@@ -350,7 +350,7 @@ unfolding Own
 alone-own = (all.0, go)
   where
     all : Own 40 alone
-    all = upTo-keeps Own selfAt 40 own-next 0 (replicate 40 0) (omega arith) (refl, λ x h. absurd (not-suc-le-zero h))
+    all = up_to-keeps Own self_at 40 own-next 0 (replicate 40 0) (omega arith) (refl, λ x h. absurd (not-suc-le-zero h))
 
     go : (x : ℕ) → up alone x ≡ x
     go x = at (dec_lt x 40)

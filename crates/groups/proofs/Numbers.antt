@@ -11,11 +11,11 @@ use native.Mathlib.Omega.{arith}
 use borrow.Author.Tests.{eq-eqb, ne_eqb, eqb-true}
 use lib.Dec.{T, eqb}
 use Rattle.groups.proofs.Forest.{rt}
-use Rattle.groups.proofs.Ties.{tiedAt}
+use Rattle.groups.proofs.Ties.{tied_at}
 
 -- p leads its group: it is tied, and its own root
 pub leads : List Bool → List ℕ → ℕ → Bool
-leads tied ps p = cond (tiedAt tied p) (eqb (rt ps p) p) false
+leads tied ps p = cond (tied_at tied p) (eqb (rt ps p) p) false
 
 -- how many lead below q
 pub before : List Bool → List ℕ → ℕ → ℕ
@@ -26,25 +26,25 @@ module _ (tied : List Bool) (ps : List ℕ) where
   abbrev pub Leads : ℕ → Type 0
   Leads p = leads tied ps p ≡ true
 
-  pub lead : (p : ℕ) → tiedAt tied p ≡ true → rt ps p ≡ p → Leads p
+  pub lead : (p : ℕ) → tied_at tied p ≡ true → rt ps p ≡ p → Leads p
   unfolding leads
   lead p e r = rw (e, eq-eqb (rt ps p) p r)
 
   pub lead-not : (p : ℕ) → rt ps p ≢ p → leads tied ps p ≡ false
   unfolding leads
-  lead-not p n = rw (ne_eqb (rt ps p) p n) (same (tiedAt tied p))
+  lead-not p n = rw (ne_eqb (rt ps p) p n) (same (tied_at tied p))
     where
       same : (b : Bool) → cond b false false ≡ false
       same true = refl
       same false = refl
 
-  pub untied-not : (p : ℕ) → tiedAt tied p ≡ false → leads tied ps p ≡ false
+  pub untied-not : (p : ℕ) → tied_at tied p ≡ false → leads tied ps p ≡ false
   unfolding leads
   untied-not p e = rw e
 
-  pub lead-tied : (p : ℕ) → Leads p → tiedAt tied p ≡ true
+  pub lead-tied : (p : ℕ) → Leads p → tied_at tied p ≡ true
   unfolding leads
-  lead-tied p h = go (tiedAt tied p) h
+  lead-tied p h = go (tied_at tied p) h
     where
       go : (b : Bool) → cond b (eqb (rt ps p) p) false ≡ true → b ≡ true
       go true h = refl
@@ -52,7 +52,7 @@ module _ (tied : List Bool) (ps : List ℕ) where
 
   pub lead-root : (p : ℕ) → Leads p → rt ps p ≡ p
   unfolding leads
-  lead-root p h = eqb-true (rt ps p) p (go (tiedAt tied p) h)
+  lead-root p h = eqb-true (rt ps p) p (go (tied_at tied p) h)
     where
       go : (b : Bool) → cond b (eqb (rt ps p) p) false ≡ true → eqb (rt ps p) p ≡ true
       go true h = h

@@ -14,9 +14,9 @@ use lib.Dec.{eqb}
 use lib.ListN.{length}
 use Rattle.loops.specs.Turns.{fold}
 use Rattle.groups.specs.Chains.{Touches, Tied, Chain, last, next, Chained}
-use Rattle.groups.specs.Parents.{Falls, joinTo, joinAll, joined, alone}
+use Rattle.groups.specs.Parents.{Falls, join_to, join_all, joined, alone}
 use Rattle.groups.proofs.Forest.{rt, rt-at, merged, merged-at, merged-low, join-falls, join-sized, join-roots, alone-own, alone-falls}
-use Rattle.loops.proofs.Keeps.{upTo-keeps}
+use Rattle.loops.proofs.Keeps.{up_to-keeps}
 use Rattle.groups.proofs.Links.{Linked, linked-back, linked_on}
 
 -- the larger of two roots under the smaller: both have one root then
@@ -62,7 +62,7 @@ module _ (t : ℕ → List ℕ) where
   }
 
   module _ (ps : List ℕ) (f : Falls ps) (a q : ℕ) (i : a < length ps) (j : q < length ps) where
-    join-grown : Linked t a q → Grown ps (joinTo a ps q)
+    join-grown : Linked t a q → Grown ps (join_to a ps q)
     join-grown l = record {
       falls = join-falls a ps q f;
       sized = join-sized a ps q f;
@@ -72,40 +72,40 @@ module _ (t : ℕ → List ℕ) where
           );
     }
 
-    join-same : rt (joinTo a ps q) a ≡ rt (joinTo a ps q) q
+    join-same : rt (join_to a ps q) a ≡ rt (join_to a ps q) q
     join-same = rw (join-roots a ps q f i j a, join-roots a ps q f i j q) (merged-both (rt ps a) (rt ps q))
 
   -- the points qs join a
   fold-grown : (qs ps : List ℕ) (a : ℕ) → Falls ps → a < length ps → ((q : ℕ) → Memᴰ q qs → (q < length ps) × Linked t a q)
-      → Grown ps (fold (joinTo a) ps qs) × ((q : ℕ) → Memᴰ q qs → rt (fold (joinTo a) ps qs) a ≡ rt (fold (joinTo a) ps qs) q)
+      → Grown ps (fold (join_to a) ps qs) × ((q : ℕ) → Memᴰ q qs → rt (fold (join_to a) ps qs) a ≡ rt (fold (join_to a) ps qs) q)
   unfolding fold
   fold-grown [] ps a f i h = (grown-refl ps f, λ q m. absurd (Memᴰ.not-nil m))
   fold-grown (q ∷ qs) ps a f i h =
       let hq = h q (Memᴰ.head refl) in
       let g = join-grown ps f a q i hq.0 hq.1 in
-      let r = fold-grown qs (joinTo a ps q) a g.falls (rw g.sized i) (λ x m. (rw g.sized (h x (Memᴰ.tail m)).0, (h x (Memᴰ.tail m)).1)) in (
-        grown-trans ps (joinTo a ps q) (fold (joinTo a) (joinTo a ps q) qs) g r.0,
+      let r = fold-grown qs (join_to a ps q) a g.falls (rw g.sized i) (λ x m. (rw g.sized (h x (Memᴰ.tail m)).0, (h x (Memᴰ.tail m)).1)) in (
+        grown-trans ps (join_to a ps q) (fold (join_to a) (join_to a ps q) qs) g r.0,
         λ x m. go (r.0.finer a q (join-same ps f a q i hq.0)) r.1 x (Memᴰ.cases_cons m),
       )
     where
-      go : rt (fold (joinTo a) (joinTo a ps q) qs) a ≡ rt (fold (joinTo a) (joinTo a ps q) qs) q
-          → ((x : ℕ) → Memᴰ x qs → rt (fold (joinTo a) (joinTo a ps q) qs) a ≡ rt (fold (joinTo a) (joinTo a ps q) qs) x)
-          → (x : ℕ) → (x ≡ q) ⊎ Memᴰ x qs → rt (fold (joinTo a) (joinTo a ps q) qs) a ≡ rt (fold (joinTo a) (joinTo a ps q) qs) x
+      go : rt (fold (join_to a) (join_to a ps q) qs) a ≡ rt (fold (join_to a) (join_to a ps q) qs) q
+          → ((x : ℕ) → Memᴰ x qs → rt (fold (join_to a) (join_to a ps q) qs) a ≡ rt (fold (join_to a) (join_to a ps q) qs) x)
+          → (x : ℕ) → (x ≡ q) ⊎ Memᴰ x qs → rt (fold (join_to a) (join_to a ps q) qs) a ≡ rt (fold (join_to a) (join_to a ps q) qs) x
       go e r x (inl h) = rw h e
       go e r x (inr m) = r x m
 
   -- the points of one equation
   all_grown : (pts ps : List ℕ) → Falls ps → ((q : ℕ) → Memᴰ q pts → q < length ps)
       → ((p q : ℕ) → Memᴰ p pts → Memᴰ q pts → Linked t p q)
-      → Grown ps (joinAll pts ps) × ((p q : ℕ) → Memᴰ p pts → Memᴰ q pts → rt (joinAll pts ps) p ≡ rt (joinAll pts ps) q)
-  unfolding joinAll fold
+      → Grown ps (join_all pts ps) × ((p q : ℕ) → Memᴰ p pts → Memᴰ q pts → rt (join_all pts ps) p ≡ rt (join_all pts ps) q)
+  unfolding join_all fold
   all_grown [] ps f h l = (grown-refl ps f, λ p q m. absurd (Memᴰ.not-nil m))
   all_grown (a ∷ qs) ps f h l =
       let r = fold-grown qs ps a f (h a (Memᴰ.head refl)) (λ q m. (h q (Memᴰ.tail m), l a q (Memᴰ.head refl) (Memᴰ.tail m))) in
       (r.0, λ p q m n. sym (go r.1 p (Memᴰ.cases_cons m)) ∙ go r.1 q (Memᴰ.cases_cons n))
     where
-      go : ((q : ℕ) → Memᴰ q qs → rt (fold (joinTo a) ps qs) a ≡ rt (fold (joinTo a) ps qs) q)
-          → (x : ℕ) → (x ≡ a) ⊎ Memᴰ x qs → rt (fold (joinTo a) ps qs) a ≡ rt (fold (joinTo a) ps qs) x
+      go : ((q : ℕ) → Memᴰ q qs → rt (fold (join_to a) ps qs) a ≡ rt (fold (join_to a) ps qs) q)
+          → (x : ℕ) → (x ≡ a) ⊎ Memᴰ x qs → rt (fold (join_to a) ps qs) a ≡ rt (fold (join_to a) ps qs) x
       go r x (inl e) = rw e
       go r x (inr m) = r x m
 
@@ -117,7 +117,7 @@ module _ (t : ℕ → List ℕ) where
     pub whole : (j p q : ℕ) → j < k → Touches t j p → Touches t j q → rt ps p ≡ rt ps q
 
   module _ (n : ℕ) (inside : (k p : ℕ) → Touches t k p → p < 40) where
-    good-next : (k : ℕ) (ps : List ℕ) → k < n → Good k ps → Good (k + 1) (joinAll (t k) ps)
+    good-next : (k : ℕ) (ps : List ℕ) → k < n → Good k ps → Good (k + 1) (join_all (t k) ps)
     good-next k ps h g =
         let r = all_grown (t k) ps g.falls (λ q m. rw g.sized (inside k q m)) (λ p q a b. inr (k ∷ [], last a b)) in
         record {
@@ -127,15 +127,15 @@ module _ (t : ℕ → List ℕ) where
           whole = λ j p q l a b. go r.0 r.1 j p q l (ℕ_discrete j k) a b;
         }
       where
-        go : Grown ps (joinAll (t k) ps) → ((p q : ℕ) → Touches t k p → Touches t k q → rt (joinAll (t k) ps) p ≡ rt (joinAll (t k) ps) q)
-            → (j p q : ℕ) → j < k + 1 → Dec (j ≡ k) → Touches t j p → Touches t j q → rt (joinAll (t k) ps) p ≡ rt (joinAll (t k) ps) q
+        go : Grown ps (join_all (t k) ps) → ((p q : ℕ) → Touches t k p → Touches t k q → rt (join_all (t k) ps) p ≡ rt (join_all (t k) ps) q)
+            → (j p q : ℕ) → j < k + 1 → Dec (j ≡ k) → Touches t j p → Touches t j q → rt (join_all (t k) ps) p ≡ rt (join_all (t k) ps) q
         go d r j p q l (yes e) a b = r p q (rw e at a) (rw e at b)
         go d r j p q l (no i) a b = d.finer p q (g.whole j p q (omega arith) a b)
 
     pub good : Good n (joined t n alone)
     unfolding joined
     good =
-        upTo-keeps Good (λ k. joinAll (t k)) n good-next 0 alone (omega arith)
+        up_to-keeps Good (λ k. join_all (t k)) n good-next 0 alone (omega arith)
         (record {
           falls = alone-falls;
           sized = alone-own.0;

@@ -17,11 +17,11 @@ use Rattle.sketch.proofs.Every.{every-cons}
 use Rattle.sketch.proofs.Given.{given-exactly}
 use Rattle.sketch.proofs.Wholes.{found-lists}
 use Rattle.sketch.proofs.Within.{within}
-use Rattle.sketch.specs.Check.{checkOf}
-use Rattle.sketch.specs.Fields.{Field, point, line, value, size, axis, side, radius, contact, equationFields}
-use Rattle.sketch.specs.Indices.{isPoint, is_line, foundField, foundLine, foundActive, foundMeasured}
-use Rattle.sketch.specs.Involved.{noLine, line_at, ends, pointsIn, pointsAmong, involvedOf}
-use Rattle.sketch.specs.Parts.{lines_of, equations_of, measuresOf}
+use Rattle.sketch.specs.Check.{check_of}
+use Rattle.sketch.specs.Fields.{Field, point, line, value, size, axis, side, radius, contact, equation_fields}
+use Rattle.sketch.specs.Indices.{is_point, is_line, found_field, found_line, found_active, found_measured}
+use Rattle.sketch.specs.Involved.{no_line, line_at, ends, points_in, points_among, involved_of}
+use Rattle.sketch.specs.Parts.{lines_of, equations_of, measures_of}
 use Rattle.sketch.specs.declared.Active.{Active}
 use Rattle.sketch.specs.declared.Build.{Build}
 use Rattle.sketch.specs.declared.Checked.TheVariants.{Passes}
@@ -31,9 +31,9 @@ use Rattle.sketch.specs.declared.PointNo.{PointNo}
 use Rattle.sketch.specs.declared.Rad.{Rad}
 use Rattle.groups.specs.Chains.{Touches, Tied, GroupsAreChains}
 use Rattle.groups.specs.Listed.{groups_of}
-use Rattle.groups.specs.Tied.{tiedOf}
-use Rattle.groups.specs.Touches.{number, touchedIn, touchedBy}
-use Rattle.sketch.specs.Blank.{blankActive}
+use Rattle.groups.specs.Tied.{tied_of}
+use Rattle.groups.specs.Touches.{number, touched_in, touched_by}
+use Rattle.sketch.specs.Blank.{blank_active}
 use Rattle.groups.proofs.Exactly.{chains}
 use Rattle.groups.proofs.Ties.{tied-all, tied-only}
 
@@ -61,8 +61,8 @@ small-append [] b s t = t
 small-append (x ∷ a) b s t = (s.0, small-append a b s.1 t)
 
 -- the points n, the lines m of the list ls
-module _ (n m : ℕ) (ls : List Line) (few : n ≤ 40) (lines : every (foundLine n) (take m ls) ≡ true) where
-  below : (p : PointNo) → isPoint n p ≡ true → number p < 40
+module _ (n m : ℕ) (ls : List Line) (few : n ≤ 40) (lines : every (found_line n) (take m ls) ≡ true) where
+  below : (p : PointNo) → is_point n p ≡ true → number p < 40
   below p e = omega (arith, ltb-true p.0 n e)
 
   both_ends : (l : LineNo) → is_line m l ≡ true → Small (map number (ends ls l))
@@ -71,21 +71,21 @@ module _ (n m : ℕ) (ls : List Line) (few : n ≤ 40) (lines : every (foundLine
       h : l.0 < m
       h = ltb-true l.0 m e
 
-      same : get_or (take m ls) l.0 noLine ≡ line_at ls l
-      same = get_or-take m ls l.0 noLine h
+      same : get_or (take m ls) l.0 no_line ≡ line_at ls l
+      same = get_or-take m ls l.0 no_line h
 
       go : Dec (l.0 < length (take m ls)) → Small (map number (ends ls l))
       go (yes i) =
-          let f : foundLine n (line_at ls l) ≡ true = rw same at (every-at (foundLine n) (take m ls) l.0 noLine lines i) in
-          let t = every-cons (foundField n 0) (point (line_at ls l).from) _ f in
-          let u = every-cons (foundField n 0) (point (line_at ls l).to) _ t.1 in
+          let f : found_line n (line_at ls l) ≡ true = rw same at (every-at (found_line n) (take m ls) l.0 no_line lines i) in
+          let t = every-cons (found_field n 0) (point (line_at ls l).from) _ f in
+          let u = every-cons (found_field n 0) (point (line_at ls l).to) _ t.1 in
           (below (line_at ls l).from t.0, (below (line_at ls l).to u.0, tt))
       go (no i) =
-          let f : line_at ls l ≡ noLine = sym same ∙ get_or-eq_default (take m ls) noLine (omega arith) in
+          let f : line_at ls l ≡ no_line = sym same ∙ get_or-eq_default (take m ls) no_line (omega arith) in
           rw f (omega arith, (omega arith, tt))
 
   -- a field that is found, and what an equation that is found touches
-  field-small : (f : Field) → foundField n m f ≡ true → Small (map number (pointsIn ls f))
+  field-small : (f : Field) → found_field n m f ≡ true → Small (map number (points_in ls f))
   field-small (point p) h = (below p h, tt)
   field-small (line l) h = both_ends l h
   field-small (value v) h = tt
@@ -96,49 +96,49 @@ module _ (n m : ℕ) (ls : List Line) (few : n ≤ 40) (lines : every (foundLine
   field-small (radius (Rad.Value v)) h = tt
   field-small (contact k) h = tt
 
-  small : (l : List Field) → every (foundField n m) l ≡ true → Small (map number (pointsAmong ls l))
+  small : (l : List Field) → every (found_field n m) l ≡ true → Small (map number (points_among ls l))
   small [] h = tt
   small (f ∷ l) h =
-      let t = every-cons (foundField n m) f l h in
-      small-append (pointsIn ls f) (pointsAmong ls l) (field-small f t.0) (small l t.1)
+      let t = every-cons (found_field n m) f l h in
+      small-append (points_in ls f) (points_among ls l) (field-small f t.0) (small l t.1)
 
 -- what is past the last equation touches nothing
-past : (es : List Active) (ls : List Line) (k p : ℕ) → Touches (touchedIn es ls) k p → k < length es
-unfolding touchedIn
+past : (es : List Active) (ls : List Line) (k p : ℕ) → Touches (touched_in es ls) k p → k < length es
+unfolding touched_in
 past es ls k p m = go (dec_lt k (length es)) m
   where
-    go : Dec (k < length es) → Memᴰ p (map number (involvedOf ls (get_or es k blankActive).equation)) → k < length es
+    go : Dec (k < length es) → Memᴰ p (map number (involved_of ls (get_or es k blank_active).equation)) → k < length es
     go (yes h) m = h
     go (no h) m =
-        let e : get_or es k blankActive ≡ blankActive = get_or-eq_default es blankActive (omega arith) in
+        let e : get_or es k blank_active ≡ blank_active = get_or-eq_default es blank_active (omega arith) in
         absurd (Memᴰ.not-nil (rw e at m))
 
-module _ (b : Build) (passes : checkOf b ≡ Passes) where
+module _ (b : Build) (passes : check_of b ≡ Passes) where
   counts : (b.point_count ≤ 40) × (b.line_count ≤ 40) × (b.equation_count ≤ 40) × (b.measure_count ≤ 20)
   counts = within b ((given-exactly b).passes.0 passes).0
 
-  found : (every (foundLine b.point_count) (lines_of b) ≡ true)
-      × (every (foundActive b.point_count b.line_count) (equations_of b) ≡ true)
-      × (every (foundMeasured b.point_count b.line_count) (measuresOf b) ≡ true)
+  found : (every (found_line b.point_count) (lines_of b) ≡ true)
+      × (every (found_active b.point_count b.line_count) (equations_of b) ≡ true)
+      × (every (found_measured b.point_count b.line_count) (measures_of b) ≡ true)
   found = found-lists b ((given-exactly b).passes.0 passes).2
 
-  inside : (k p : ℕ) → Touches (touchedBy b) k p → p < 40
-  unfolding touchedIn
+  inside : (k p : ℕ) → Touches (touched_by b) k p → p < 40
+  unfolding touched_in
   inside k p m =
-      let found_at = foundActive b.point_count b.line_count in
-      let e = every-at found_at (equations_of b) k blankActive found.1 (past (equations_of b) b.lines k p m) in
-      small_at (touchedBy b k) p
-      (small b.point_count b.line_count b.lines counts.0 found.0 (equationFields (get_or (equations_of b) k blankActive).equation) e)
+      let found_at = found_active b.point_count b.line_count in
+      let e = every-at found_at (equations_of b) k blank_active found.1 (past (equations_of b) b.lines k p m) in
+      small_at (touched_by b k) p
+      (small b.point_count b.line_count b.lines counts.0 found.0 (equation_fields (get_or (equations_of b) k blank_active).equation) e)
       m
 
-  pub groups-are-chains : GroupsAreChains (touchedBy b) (groups_of (touchedBy b) (length (equations_of b)))
+  pub groups-are-chains : GroupsAreChains (touched_by b) (groups_of (touched_by b) (length (equations_of b)))
   groups-are-chains =
-      chains (touchedBy b) (length (equations_of b)) (omega (arith, length-take b.equation_count b.equations, counts.2)) inside
+      chains (touched_by b) (length (equations_of b)) (omega (arith, length-take b.equation_count b.equations, counts.2)) inside
       (past (equations_of b) b.lines)
 
   -- `tied_points` tells exactly the points that an equation touches
-  pub tied-exactly : (p : ℕ) → get_or (tiedOf (touchedBy b) (length (equations_of b))) p false ≡ true ↔ Tied (touchedBy b) p
+  pub tied-exactly : (p : ℕ) → get_or (tied_of (touched_by b) (length (equations_of b))) p false ≡ true ↔ Tied (touched_by b) p
   tied-exactly p = (
-    tied-only (touchedBy b) (length (equations_of b)) inside p,
-    λ m. tied-all (touchedBy b) (length (equations_of b)) inside m.0 p (past (equations_of b) b.lines m.0 p m.1) m.1,
+    tied-only (touched_by b) (length (equations_of b)) inside p,
+    λ m. tied-all (touched_by b) (length (equations_of b)) inside m.0 p (past (equations_of b) b.lines m.0 p m.1) m.1,
   )

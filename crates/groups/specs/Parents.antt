@@ -32,27 +32,27 @@ climb (suc k) ps x =
     cond (eqb (up ps x) x) (record { parents = ps; answer = x }) r
 
 -- `root`: x turns are enough, since each goes to a lower point
-unfoldable pub rootOf : List ℕ → ℕ → Gives ℕ
-rootOf ps x = climb x ps x
+unfoldable pub root_of : List ℕ → ℕ → Gives ℕ
+root_of ps x = climb x ps x
 
 -- one point joins the first: the larger root under the smaller
-unfoldable pub joinTo : ℕ → List ℕ → ℕ → List ℕ
-joinTo p ps q =
-    let a = rootOf ps p in
-    let b = rootOf a.parents q in
+unfoldable pub join_to : ℕ → List ℕ → ℕ → List ℕ
+join_to p ps q =
+    let a = root_of ps p in
+    let b = root_of a.parents q in
     set b.parents (max a.answer b.answer) (min a.answer b.answer)
 
 -- the points of one equation
-unfoldable pub joinAll : List ℕ → List ℕ → List ℕ
-joinAll pts ps = fold (joinTo (get_or pts 0 0)) ps (drop 1 pts)
+unfoldable pub join_all : List ℕ → List ℕ → List ℕ
+join_all pts ps = fold (join_to (get_or pts 0 0)) ps (drop 1 pts)
 
 -- every point its own parent
-unfoldable pub selfAt : ℕ → List ℕ → List ℕ
-selfAt i ps = set ps i i
+unfoldable pub self_at : ℕ → List ℕ → List ℕ
+self_at i ps = set ps i i
 
 abbrev pub alone : List ℕ
-alone = up_to 40 0 selfAt (replicate 40 0)
+alone = up_to 40 0 self_at (replicate 40 0)
 
 -- the points of every equation
 unfoldable pub joined : (ℕ → List ℕ) → ℕ → List ℕ → List ℕ
-joined t n ps = up_to n 0 (λ k. joinAll (t k)) ps
+joined t n ps = up_to n 0 (λ k. join_all (t k)) ps

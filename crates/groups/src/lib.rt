@@ -1,4 +1,7 @@
 // The groups of a build (equations.rs, `tied_points`, `groups`): points that equations tie together, and those equations.
+
+#![tactic(auto)]
+
 mod numbering;
 mod parents;
 mod sweeps;

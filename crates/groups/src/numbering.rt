@@ -1,8 +1,8 @@
 // From the roots to the groups: each root gets a number when the first of its points comes.
 ghost use Rattle.std.specs.Prelude.{◌≡◌, ◌≤◌, ◌<◌};
-ghost use Rattle.groups.specs.Listed.{numberedOf, entered_of, listPoints, nothing, point_of, group_of};
+ghost use Rattle.groups.specs.Listed.{numbered_of, entered_of, list_points, nothing, point_of, group_of};
 ghost use Rattle.groups.specs.Parents.{Falls, Leaves};
-ghost use Rattle.groups.specs.Touches.{numbersOf};
+ghost use Rattle.groups.specs.Touches.{numbers_of};
 
 use crate::parents::root;
 use crate::{Listing, NO_GROUP};
@@ -11,7 +11,7 @@ use sketch::Touched;
 // The root r has a number.
 fn numbered(s: Listing, r: usize) -> Listing
     requires { (r < 40) × (s.count < 40) }
-    ensures { result ≡ numberedOf r s }
+    ensures { result ≡ numbered_of r s }
 {
     if s.index[r] != NO_GROUP {
         return s;
@@ -57,7 +57,7 @@ fn none_listed() -> Listing
 // Every tied point, rising, so that the groups are numbered by their lowest points.
 pub(crate) fn list_points(p: &mut [usize], tied: [bool; 40]) -> Listing
     requires { Falls p.old }
-    ensures { Leaves (listPoints tied p.old) p.new result }
+    ensures { Leaves (list_points tied p.old) p.new result }
 {
     let mut s = none_listed();
     for q in 0..40 {
@@ -69,7 +69,7 @@ pub(crate) fn list_points(p: &mut [usize], tied: [bool; 40]) -> Listing
 // The group of an equation is its first point's.
 pub(crate) fn group_of(p: &mut [usize], index: [usize; 40], t: Touched) -> usize
     requires { Falls p.old }
-    ensures { Leaves (group_of index (numbersOf t) p.old) p.new result }
+    ensures { Leaves (group_of index (numbers_of t) p.old) p.new result }
 {
     if t.count == 0 {
         return NO_GROUP;

@@ -1,7 +1,7 @@
 // The parents: a point's parent is itself or a lower point, so a walk up ends at the lowest point of a tree, its root.
 ghost use Rattle.std.specs.Prelude.{◌≡◌, max, set};
-ghost use Rattle.groups.specs.Parents.{up, Falls, Leaves, rootOf, joinTo, joinAll};
-ghost use Rattle.groups.specs.Touches.{numbersOf};
+ghost use Rattle.groups.specs.Parents.{up, Falls, Leaves, root_of, join_to, join_all};
+ghost use Rattle.groups.specs.Touches.{numbers_of};
 
 use loops::smaller;
 use sketch::Touched;
@@ -29,7 +29,7 @@ fn larger(a: usize, b: usize) -> usize
 // The root of x. Each point on the way gets its parent's parent, so that the next walk is half as long.
 pub(crate) fn root(p: &mut [usize], x: usize) -> usize
     requires { Falls p.old }
-    ensures { Leaves (rootOf p.old x) p.new result }
+    ensures { Leaves (root_of p.old x) p.new result }
 {
     let mut x = x;
     while up(p, x) != x {
@@ -43,7 +43,7 @@ pub(crate) fn root(p: &mut [usize], x: usize) -> usize
 // The trees of x and y become one: the larger root goes under the smaller.
 fn join(p: &mut [usize], x: usize, y: usize)
     requires { Falls p.old }
-    ensures { p.new ≡ joinTo x p.old y }
+    ensures { p.new ≡ join_to x p.old y }
 {
     let a = root(p, x);
     let b = root(p, y);
@@ -55,7 +55,7 @@ fn join(p: &mut [usize], x: usize, y: usize)
 // Each point of an equation joins its first.
 pub(crate) fn join_all(p: &mut [usize], t: Touched)
     requires { Falls p.old }
-    ensures { p.new ≡ joinAll (numbersOf t) p.old }
+    ensures { p.new ≡ join_all (numbers_of t) p.old }
 {
     let n = smaller(t.count, 4);
     let first = t.points[0];

@@ -1,8 +1,8 @@
 // The whole: the points of each equation joined, the points listed by their roots, then the equations.
 ghost use Rattle.std.specs.Prelude.{◌≡◌, ◌≤◌, length};
-ghost use Rattle.groups.specs.Listed.{listEquations, groups_of};
+ghost use Rattle.groups.specs.Listed.{list_equations, groups_of};
 ghost use Rattle.groups.specs.Parents.{Falls, alone, joined};
-ghost use Rattle.groups.specs.Touches.{touchedBy, touchesIn};
+ghost use Rattle.groups.specs.Touches.{touched_by, touches_in};
 ghost use Rattle.sketch.specs.Parts.{equations_of};
 
 use crate::numbering::{group_of, list_points};
@@ -25,7 +25,7 @@ fn each_alone() -> [usize; 40]
 
 fn join_equations(p: &mut [usize], ts: [Touched; 40], n: usize)
     requires { (Falls p.old) × (n ≤ 40) }
-    ensures { p.new ≡ joined (touchesIn ts) n p.old }
+    ensures { p.new ≡ joined (touches_in ts) n p.old }
 {
     for k in 0..n {
         let t = ts[k];
@@ -36,7 +36,7 @@ fn join_equations(p: &mut [usize], ts: [Touched; 40], n: usize)
 // Each equation goes to the group of its first point.
 fn list_equations(p: &mut [usize], index: [usize; 40], ts: [Touched; 40], n: usize) -> [usize; 40]
     requires { (Falls p.old) × (n ≤ 40) }
-    ensures { result ≡ (listEquations index (touchesIn ts) n p.old).answer }
+    ensures { result ≡ (list_equations index (touches_in ts) n p.old).answer }
 {
     let mut of = [NO_GROUP; 40];
     for k in 0..n {
@@ -48,7 +48,7 @@ fn list_equations(p: &mut [usize], index: [usize; 40], ts: [Touched; 40], n: usi
 
 // The groups of a build, in the order of their lowest points.
 pub fn groups(b: Build) -> Grouping
-    ensures { result ≡ groups_of (touchedBy b) (length (equations_of b)) }
+    ensures { result ≡ groups_of (touched_by b) (length (equations_of b)) }
 {
     let equations = b.equations;
     let lines = b.lines;

@@ -1,8 +1,8 @@
 // The points that the equations touch.
 ghost use Rattle.std.specs.Prelude.{true, ◌≡◌, ◌≤◌, length, set, take};
-ghost use Rattle.groups.specs.Tied.{tieAll, tiedOf};
-ghost use Rattle.groups.specs.Touches.{numbersOf, touchedIn, touchedBy, touchesIn, untouched};
-ghost use Rattle.sketch.specs.Involved.{touchedOf, involvedOf};
+ghost use Rattle.groups.specs.Tied.{tie_all, tied_of};
+ghost use Rattle.groups.specs.Touches.{numbers_of, touched_in, touched_by, touches_in, untouched};
+ghost use Rattle.sketch.specs.Involved.{touched_of, involved_of};
 ghost use Rattle.sketch.specs.Parts.{equations_of};
 
 use loops::smaller;
@@ -10,7 +10,7 @@ use sketch::{Active, Build, Line, PointNo, Touched, involved};
 
 // The points that take part by an equation.
 fn touched(a: Active, lines: [Line; 40]) -> Touched
-    ensures { result ≡ touchedOf (involvedOf lines a.equation) }
+    ensures { result ≡ touched_of (involved_of lines a.equation) }
 {
     let e = a.equation;
     involved(e, lines)
@@ -29,7 +29,7 @@ fn untouched() -> Touched
 // the lines.
 pub(crate) fn all_touched(equations: [Active; 40], n: usize, lines: [Line; 40]) -> [Touched; 40]
     requires { n ≤ 40 }
-    ensures { touchesIn result ≡ touchedIn (take n equations) lines }
+    ensures { touches_in result ≡ touched_in (take n equations) lines }
 {
     let mut ts = [untouched(); 40];
     for k in 0..n {
@@ -48,7 +48,7 @@ fn tie(s: &mut [bool], x: usize)
 }
 
 fn tie_all(s: &mut [bool], t: Touched)
-    ensures { s.new ≡ tieAll (numbersOf t) s.old }
+    ensures { s.new ≡ tie_all (numbers_of t) s.old }
 {
     let n = smaller(t.count, 4);
     for j in 0..n {
@@ -60,7 +60,7 @@ fn tie_all(s: &mut [bool], t: Touched)
 // Whether one of the first n equations touches each point.
 pub(crate) fn tie_equations(ts: [Touched; 40], n: usize) -> [bool; 40]
     requires { n ≤ 40 }
-    ensures { result ≡ tiedOf (touchesIn ts) n }
+    ensures { result ≡ tied_of (touches_in ts) n }
 {
     let mut s = [false; 40];
     for k in 0..n {
@@ -72,7 +72,7 @@ pub(crate) fn tie_equations(ts: [Touched; 40], n: usize) -> [bool; 40]
 
 // Whether an equation touches each point.
 pub fn tied_points(b: Build) -> [bool; 40]
-    ensures { result ≡ tiedOf (touchedBy b) (length (equations_of b)) }
+    ensures { result ≡ tied_of (touched_by b) (length (equations_of b)) }
 {
     let equations = b.equations;
     let lines = b.lines;

@@ -8,18 +8,18 @@ use native.Mathlib.Omega.{arith}
 use borrow.Author.Tests.{le-ltb}
 use lib.Ieee.{Float}
 use lib.ListN.{length, get_or, length-take}
-use Rattle.fit.specs.Fits.{freedomOf}
-use Rattle.fit.specs.Promise.{Frees, short, frameOverRows}
+use Rattle.fit.specs.Fits.{freedom_of}
+use Rattle.fit.specs.Promise.{Frees, short, frame_over_rows}
 use Rattle.fit.specs.declared.Degrees.{Degrees}
 use Rattle.fit.specs.declared.Frame.{Frame}
 use Rattle.loops.proofs.Parts.{any-default}
 use Rattle.loops.specs.Turns.{up_to}
-use Rattle.loops.proofs.Turning.{upTo-next}
-use Rattle.members.specs.Movable.{nowhere, indicesOf}
+use Rattle.loops.proofs.Turning.{up_to-next}
+use Rattle.members.specs.Movable.{nowhere, indices_of}
 use Rattle.sketch.specs.declared.Build.{Build}
 use Rattle.sketch.specs.declared.Point.{Point}
-use Rattle.fit.specs.Groups.{freedomIn}
-use Rattle.job.specs.Groups.{count_of, looseBy, looseIn, loose_at}
+use Rattle.fit.specs.Groups.{freedom_in}
+use Rattle.job.specs.Groups.{count_of, loose_by, loose_in, loose_at}
 
 -- areas that are long enough
 pub roomy : (p q r : List Float) → 6400 ≤ length p → 6400 ≤ length q → 6400 ≤ length r → short p q r ≡ false
@@ -35,29 +35,29 @@ at_most false n h = h
 
 module _ (b : Build) (f : Frame) (x p q r p' q' r' : List Float) (t : Degrees) (n : ℕ) (room : short p q r ≡ false)
     (e : Frees b f x p q r p' q' r' t) (c : n ≡ count_of t) where
-  pub freedom-is : n ≡ freedomIn b f x
+  pub freedom-is : n ≡ freedom_in b f x
   freedom-is =
-      let q : t ≡ cond (frameOverRows b f) Degrees.TooManyRows (Degrees.Of (freedomOf b f x)) = e.answer ∙ rw room in
-      c ∙ rw q (counts (frameOverRows b f) (freedomOf b f x))
+      let q : t ≡ cond (frame_over_rows b f) Degrees.TooManyRows (Degrees.Of (freedom_of b f x)) = e.answer ∙ rw room in
+      c ∙ rw q (counts (frame_over_rows b f) (freedom_of b f x))
 
-  less : freedomOf b f x ≤ length (indicesOf f.free)
-  unfolding freedomOf
+  less : freedom_of b f x ≤ length (indices_of f.free)
+  unfolding freedom_of
   less = sub-le _ _
 
   pub freedom-few : length f.free.items ≡ 80 → n ≤ 80
   freedom-few l =
-      let k : freedomOf b f x ≤ 80 = omega (arith, less, length-take f.free.count f.free.items) in
-      rw freedom-is (at_most (frameOverRows b f) (freedomOf b f x) k)
+      let k : freedom_of b f x ≤ 80 = omega (arith, less, length-take f.free.count f.free.items) in
+      rw freedom-is (at_most (frame_over_rows b f) (freedom_of b f x) k)
 
 -- within the arrays the default is not asked for
 pub loose-is : (points : List Point) (of : List ℕ) (d : Point) (v : ℕ) (p : ℕ) (o : Bool) → length points ≡ 40 → length of ≡ 40 → p < 40
-    → o ≡ looseBy (get_or points p d) (get_or of p v) → o ≡ looseIn points of p
+    → o ≡ loose_by (get_or points p d) (get_or of p v) → o ≡ loose_in points of p
 loose-is points of d v p o l m h e = e ∙ rw (any-default points p d nowhere (rw l h), any-default of p v 0 (rw m h))
 
-pub loose-turn : (points : List Point) (of : List ℕ) (n p k k' R : ℕ) (o : Bool) → p < n → k' ≡ cond o (k + 1) k → o ≡ looseIn points of p
+pub loose-turn : (points : List Point) (of : List ℕ) (n p k k' R : ℕ) (o : Bool) → p < n → k' ≡ cond o (k + 1) k → o ≡ loose_in points of p
     → up_to n p (loose_at points of) k ≡ R → up_to n (p + 1) (loose_at points of) k' ≡ R
 unfolding loose_at
-loose-turn points of n p k k' R o h e w r = upTo-next (loose_at points of) n p k k' R h (rw w at e) r
+loose-turn points of n p k k' R o h e w r = up_to-next (loose_at points of) n p k k' R h (rw w at e) r
 
 pub counted-few : (o : Bool) (k n p : ℕ) → n ≡ cond o (k + 1) k → k ≤ p → n ≤ p + 1
 counted-few true k n p e h = omega arith

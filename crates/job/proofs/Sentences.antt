@@ -7,26 +7,26 @@ use mathlib.Core.Path.{◌≡◌, refl, ap, ◌∙◌}
 use native.Mathlib.Omega.{arith}
 use lib.Ieee.{Float}
 use lib.ListN.{length}
-use Rattle.answer.specs.Endings.{failedOf}
+use Rattle.answer.specs.Endings.{failed_of}
 use Rattle.answer.specs.declared.GroupFit.{GroupFit}
 use Rattle.fit.proofs.MeansFitted.{fitted-holds}
 use Rattle.fit.proofs.Lowest.{lowest-is}
 use Rattle.fit.proofs.Reasons.{reason-exactly, reason-tells}
 use Rattle.fit.proofs.SuspectsTheorem.{suspects-sized, suspects-exactly}
 use Rattle.fit.specs.Fits.{converges}
-use Rattle.fit.specs.Groups.{frameIn, outcomeAt, suspectsAt, lowestAt}
+use Rattle.fit.specs.Groups.{frame_in, outcome_at, suspects_at, lowest_at}
 use Rattle.groups.proofs.Theorem.{groups-are-chains}
-use Rattle.groups.specs.Listed.{groupingOf}
+use Rattle.groups.specs.Listed.{grouping_of}
 use Rattle.rounds.specs.Promise.{zeroed}
 use Rattle.rounds.specs.Solve.{Outcome, converged, failed}
 use Rattle.sketch.proofs.Given as goal
-use Rattle.sketch.specs.Check.{checkOf, ordered, overBound, outOfBounds, refersToNothing, overRows}
+use Rattle.sketch.specs.Check.{check_of, ordered, over_bound, out_of_bounds, refers_to_nothing, over_rows}
 use Rattle.sketch.specs.declared.Build.{Build}
 use Rattle.sketch.specs.declared.Checked.{Checked}
 use Rattle.sketch.specs.declared.Checked.TheVariants.{Passes}
 use Rattle.job.specs.Given.{Sound, LowestFailing}
-use Rattle.job.specs.Groups.{Result, fits, fails, fitOf}
-use Rattle.job.specs.Promise.{noRoom, inOrder, verdictOf, answerAfter, areaAfter, unfit, firstRow}
+use Rattle.job.specs.Groups.{Result, fits, fails, fit_of}
+use Rattle.job.specs.Promise.{no_room, in_order, verdict_of, answer_after, area_after, unfit, first_row}
 use Rattle.job.specs.Sentences.{Failing, FittedMeansFitted, FailureNamed, AreasAfter}
 use Rattle.job.proofs.Theorem.{given-exactly, lowest-fails, fails-some}
 
@@ -42,12 +42,12 @@ module _ (b : Build) where
   failing : (j : ℕ) (u : GroupFit) → LowestFailing b j u → Failing b j
   failing j u l = record { group = l.group; unfitted = rw l.outcome; earlier = l.earlier }
 
-  answer-is : (v : Checked) (j : ℕ) (u : GroupFit) → v ≡ Passes → fitOf b ≡ fails j u → answerAfter b v ≡ failedOf u (suspectsAt b (groupingOf b) j)
+  answer-is : (v : Checked) (j : ℕ) (u : GroupFit) → v ≡ Passes → fit_of b ≡ fails j u → answer_after b v ≡ failed_of u (suspects_at b (grouping_of b) j)
   answer-is v j u e f = rw (e, f)
 
   -- by the rows in 01's order
-  left : (a : List Float) (o n u m r f : Bool) → (firstRow o n u m r f ≡ 0) ⊎ (firstRow o n u m r f ≡ 7)
-      → areaAfter a (inOrder o n (ordered o u m r)) ≡ zeroed 6400 a
+  left : (a : List Float) (o n u m r f : Bool) → (first_row o n u m r f ≡ 0) ⊎ (first_row o n u m r f ≡ 7)
+      → area_after a (in_order o n (ordered o u m r)) ≡ zeroed 6400 a
   left a true n u m r f (inl h) = absurd (omega arith)
   left a true n u m r f (inr h) = absurd (omega arith)
   left a false true u m r f (inl h) = absurd (omega arith)
@@ -60,8 +60,8 @@ module _ (b : Build) where
   left a false false false false true f (inr h) = absurd (omega arith)
   left a false false false false false f h = refl
 
-  kept : (a : List Float) (o n u m r f : Bool) → firstRow o n u m r f ≢ 0 → firstRow o n u m r f ≢ 7
-      → areaAfter a (inOrder o n (ordered o u m r)) ≡ a
+  kept : (a : List Float) (o n u m r f : Bool) → first_row o n u m r f ≢ 0 → first_row o n u m r f ≢ 7
+      → area_after a (in_order o n (ordered o u m r)) ≡ a
   kept a true n u m r f h k = refl
   kept a false true u m r f h k = refl
   kept a false false true m r f h k = refl
@@ -71,18 +71,18 @@ module _ (b : Build) where
   kept a false false false false false false h k = absurd (h refl)
 
   pub areas-after : AreasAfter b
-  unfolding verdictOf checkOf
+  unfolding verdict_of check_of
   areas-after out p q r area =
-      let n = noRoom b (length out) (length p) (length q) (length r) in
-      let f = unfit (fitOf b) in
-      (left area (overBound b) n (outOfBounds b) (refersToNothing b) (overRows b) f, kept area (overBound b) n (outOfBounds b) (refersToNothing b) (overRows b) f)
+      let n = no_room b (length out) (length p) (length q) (length r) in
+      let f = unfit (fit_of b) in
+      (left area (over_bound b) n (out_of_bounds b) (refers_to_nothing b) (over_rows b) f, kept area (over_bound b) n (out_of_bounds b) (refers_to_nothing b) (over_rows b) f)
 
   module _ (out p q r : ℕ) where
-    passes : Sound b out p q r → checkOf b ≡ Passes
+    passes : Sound b out p q r → check_of b ≡ Passes
     passes s = (goal.given-exactly b).passes.1 (s.counts, s.numbers, s.items, s.rows)
 
-    pub verdict-passes : Sound b out p q r → verdictOf b out p q r ≡ Passes
-    unfolding verdictOf
+    pub verdict-passes : Sound b out p q r → verdict_of b out p q r ≡ Passes
+    unfolding verdict_of
     verdict-passes s = rw (s.counts, s.room) (passes s)
 
     pub fitted-means-fitted : FittedMeansFitted b out p q r
@@ -91,7 +91,7 @@ module _ (b : Build) where
         let c = groups-are-chains b (passes s.0) in
         let at = c.point-listed point (k, touches) in
         let m = c.equation-listed k point at.0 touches at.2 in
-        let o = outcome-of (outcomeAt b (groupingOf b) at.0) (s.1 at.0 at.1) in
+        let o = outcome-of (outcome_at b (grouping_of b) at.0) (s.1 at.0 at.1) in
         record {
           group = at.0;
           x = o.0;
@@ -99,28 +99,28 @@ module _ (b : Build) where
           tries = o.2;
           listed = m;
           fit = o.3;
-          within = fitted-holds b (groupingOf b) at.0 o.0 o.1 o.2 o.3 k m;
+          within = fitted-holds b (grouping_of b) at.0 o.0 o.1 o.2 o.3 k m;
         }
 
     pub failure-named : FailureNamed b out p q r
     failure-named h =
         let s = (given-exactly b out p q r).seven.0 h in
-        let f = failure-of (fitOf b) (fails-some b s.1) in
+        let f = failure-of (fit_of b) (fails-some b s.1) in
         let l = lowest-fails b f.0 f.1 f.2 in
         let g = failing f.0 f.1 l in
         record {
           group = f.0;
           failing = g;
-          lowest = lowestAt b (groupingOf b) f.0;
+          lowest = lowest_at b (grouping_of b) f.0;
           is-lowest = lowest-is b f.0 (passes s.0) g.group;
           iterations = l.iterations;
           tries = l.tries;
           why = l.why;
           outcome = l.outcome;
-          reason = (reason-exactly b (groupingOf b) f.0 l.why l.iterations l.tries).0 l.outcome;
-          tells = reason-tells b (groupingOf b) f.0 l.why l.iterations l.tries l.outcome;
-          marks = suspectsAt b (groupingOf b) f.0;
-          answer = answer-is (verdictOf b out p q r) f.0 f.1 (verdict-passes s.0) f.2 ∙ ap (λ u. failedOf u (suspectsAt b (groupingOf b) f.0)) l.answered;
-          sized = suspects-sized b (frameIn b (groupingOf b) f.0);
-          exactly = suspects-exactly b (groupingOf b) f.0;
+          reason = (reason-exactly b (grouping_of b) f.0 l.why l.iterations l.tries).0 l.outcome;
+          tells = reason-tells b (grouping_of b) f.0 l.why l.iterations l.tries l.outcome;
+          marks = suspects_at b (grouping_of b) f.0;
+          answer = answer-is (verdict_of b out p q r) f.0 f.1 (verdict-passes s.0) f.2 ∙ ap (λ u. failed_of u (suspects_at b (grouping_of b) f.0)) l.answered;
+          sized = suspects-sized b (frame_in b (grouping_of b) f.0);
+          exactly = suspects-exactly b (grouping_of b) f.0;
         }

@@ -7,26 +7,26 @@ use native.Mathlib.Omega.{arith}
 use lib.Ieee.{Float}
 use lib.ListN.{length, set}
 use Rattle.answer.specs.declared.GroupFit.{GroupFit}
-use Rattle.fit.specs.Fits.{outcomeIn}
-use Rattle.fit.specs.Promise.{FitsChosen, short, fittedBy}
+use Rattle.fit.specs.Fits.{outcome_in}
+use Rattle.fit.specs.Promise.{FitsChosen, short, fitted_by}
 use Rattle.fit.specs.Frames.{frame_of, start_in}
 use Rattle.fit.specs.declared.Fitted.{Fitted}
 use Rattle.fit.specs.declared.Frame.{Frame}
-use Rattle.fit.specs.Groups.{lowestOf, freedomIn}
+use Rattle.fit.specs.Groups.{lowest_of, freedom_in}
 use Rattle.groups.specs.declared.Grouping.{Grouping}
-use Rattle.members.specs.Lists.{numbersOf}
-use Rattle.members.specs.Scale.{unscaleOf}
-use Rattle.rounds.specs.Promise.{convergedBy}
+use Rattle.members.specs.Lists.{numbers_of}
+use Rattle.members.specs.Scale.{unscale_of}
+use Rattle.rounds.specs.Promise.{converged_by}
 use Rattle.rounds.specs.Solve.{Outcome, converged, failed}
 use Rattle.sketch.specs.declared.Build.{Build}
-use Rattle.job.specs.Groups.{Result, fits, fails, result_of, taken_of, failingBy, stepBy, step_of, groupsFrom, begin}
+use Rattle.job.specs.Groups.{Result, fits, fails, result_of, taken_of, failing_by, step_by, step_of, groups_from, begin}
 use Rattle.job.specs.declared.Doing.{Doing}
 use Rattle.job.specs.declared.Went.{Went}
 
 -- ---- what is taken over from a fit
 
-pub taken_is : (b : Build) (f : Frame) (g : ℕ) (x : List Float) (i t : ℕ) (d : Doing) (points : List Float) (n low : ℕ) → n ≡ freedomIn b f x
-    → points ≡ unscaleOf b.points b.centre b.size (numbersOf f.points.0) x d.points → low ≡ lowestOf f
+pub taken_is : (b : Build) (f : Frame) (g : ℕ) (x : List Float) (i t : ℕ) (d : Doing) (points : List Float) (n low : ℕ) → n ≡ freedom_in b f x
+    → points ≡ unscale_of b.points b.centre b.size (numbers_of f.points.0) x d.points → low ≡ lowest_of f
     → record { points = points; freedom = d.freedom + n; groups = set d.groups g (record { lowest = low; freedom = n; iterations = i; tries = t; code = 0; column = 0 }) }
     ≡ taken_of b f g x i t d
 unfolding taken_of
@@ -34,43 +34,43 @@ taken_is b f g x i t d points n low en ep el = rw (ep, el, en)
 
 -- ---- one group
 
-failed-by : (b : Build) (f : Frame) (g : ℕ) (d : Doing) (n : ℕ) (o : Outcome) (t : Fitted) → t ≡ fittedBy n o → convergedBy t.solved.ending ≡ false
-    → fails g (failingBy f t.solved) ≡ stepBy b f g d o
+failed-by : (b : Build) (f : Frame) (g : ℕ) (d : Doing) (n : ℕ) (o : Outcome) (t : Fitted) → t ≡ fitted_by n o → converged_by t.solved.ending ≡ false
+    → fails g (failing_by f t.solved) ≡ step_by b f g d o
 failed-by b f g d n (converged x i k) t e h = let z : ◌≡◌ {A = Bool} true false = rw e at h in cc
 failed-by b f g d n (failed w i k) t e h = rw e
 
-converged-by : (b : Build) (f : Frame) (g : ℕ) (d d' : Doing) (o : Outcome) (t : Fitted) → t ≡ fittedBy (length (start_in b f)) o → convergedBy t.solved.ending ≡ true
-    → d' ≡ taken_of b f g t.x t.solved.iterations t.solved.tries d → fits d' ≡ stepBy b f g d o
+converged-by : (b : Build) (f : Frame) (g : ℕ) (d d' : Doing) (o : Outcome) (t : Fitted) → t ≡ fitted_by (length (start_in b f)) o → converged_by t.solved.ending ≡ true
+    → d' ≡ taken_of b f g t.x t.solved.iterations t.solved.tries d → fits d' ≡ step_by b f g d o
 converged-by b f g d d' (converged x i k) t e h q = ap fits (rw e at q)
 converged-by b f g d d' (failed w i k) t e h q = let z : ◌≡◌ {A = Bool} false true = rw e at h in cc
 
 module _ (b : Build) (gr : Grouping) (g : ℕ) (d : Doing) (f : Frame) (t : Fitted) (p q r p' q' r' : List Float) (c : Bool) (set_out : f ≡ frame_of b.points gr g)
-    (room : short p q r ≡ false) (e : FitsChosen b f f.equations p q r p' q' r' t) (k : c ≡ convergedBy t.solved.ending) where
-  pub one-failed : (u : GroupFit) → c ≡ false → u ≡ failingBy f t.solved → fails g u ≡ step_of b gr g d
+    (room : short p q r ≡ false) (e : FitsChosen b f f.equations p q r p' q' r' t) (k : c ≡ converged_by t.solved.ending) where
+  pub one-failed : (u : GroupFit) → c ≡ false → u ≡ failing_by f t.solved → fails g u ≡ step_of b gr g d
   unfolding step_of
-  one-failed u h v = rw (v, ← set_out) (failed-by b f g d (length (start_in b f)) (outcomeIn b f (numbersOf f.equations.0)) t (e.answer ∙ rw room) (sym k ∙ h))
+  one-failed u h v = rw (v, ← set_out) (failed-by b f g d (length (start_in b f)) (outcome_in b f (numbers_of f.equations.0)) t (e.answer ∙ rw room) (sym k ∙ h))
 
   pub one-converged : (d' : Doing) → c ≡ true → d' ≡ taken_of b f g t.x t.solved.iterations t.solved.tries d → fits d' ≡ step_of b gr g d
   unfolding step_of
-  one-converged d' h q = rw (← set_out) (converged-by b f g d d' (outcomeIn b f (numbersOf f.equations.0)) t (e.answer ∙ rw room) (sym k ∙ h) q)
+  one-converged d' h q = rw (← set_out) (converged-by b f g d d' (outcome_in b f (numbers_of f.equations.0)) t (e.answer ∙ rw room) (sym k ∙ h) q)
 
 -- ---- the groups
 
 module _ (b : Build) (gr : Grouping) where
-  from_next : (m k g : ℕ) (d d' : Doing) → m ≡ suc k → step_of b gr g d ≡ fits d' → groupsFrom b gr m g d ≡ groupsFrom b gr k (g + 1) d'
-  unfolding groupsFrom
+  from_next : (m k g : ℕ) (d d' : Doing) → m ≡ suc k → step_of b gr g d ≡ fits d' → groups_from b gr m g d ≡ groups_from b gr k (g + 1) d'
+  unfolding groups_from
   from_next m k g d d' e s = rw (e, s)
 
-  from-stop : (m k g j : ℕ) (u : GroupFit) (d : Doing) → m ≡ suc k → step_of b gr g d ≡ fails j u → groupsFrom b gr m g d ≡ fails j u
-  unfolding groupsFrom
+  from-stop : (m k g j : ℕ) (u : GroupFit) (d : Doing) → m ≡ suc k → step_of b gr g d ≡ fails j u → groups_from b gr m g d ≡ fails j u
+  unfolding groups_from
   from-stop m k g j u d e s = rw (e, s)
 
-  from-done : (m g : ℕ) (d : Doing) → m ≡ 0 → groupsFrom b gr m g d ≡ fits d
-  unfolding groupsFrom
+  from-done : (m g : ℕ) (d : Doing) → m ≡ 0 → groups_from b gr m g d ≡ fits d
+  unfolding groups_from
   from-done m g d e = rw e
 
-  module _ (n g : ℕ) (d : Doing) (R : Result) (r : groupsFrom b gr (n - g) g d ≡ R) where
-    pub groups-next : (w : Went) → g < n → w.failed ≡ false → result_of w ≡ step_of b gr g d → groupsFrom b gr (n - (g + 1)) (g + 1) w.doing ≡ R
+  module _ (n g : ℕ) (d : Doing) (R : Result) (r : groups_from b gr (n - g) g d ≡ R) where
+    pub groups-next : (w : Went) → g < n → w.failed ≡ false → result_of w ≡ step_of b gr g d → groups_from b gr (n - (g + 1)) (g + 1) w.doing ≡ R
     groups-next w h c s = sym (from_next (n - g) (n - (g + 1)) g d w.doing (omega arith) (sym (rw c at s))) ∙ r
 
     pub groups-stop : (w : Went) → g < n → w.failed ≡ true → result_of w ≡ step_of b gr g d → result_of w ≡ R
@@ -81,7 +81,7 @@ module _ (b : Build) (gr : Grouping) where
     pub groups-done : n ≤ g → fits d ≡ R
     groups-done h = sym (from-done (n - g) g d (omega arith)) ∙ r
 
-  pub groups-begin : (n : ℕ) (d : Doing) → d ≡ begin b → groupsFrom b gr (n - 0) 0 d ≡ groupsFrom b gr n 0 (begin b)
+  pub groups-begin : (n : ℕ) (d : Doing) → d ≡ begin b → groups_from b gr (n - 0) 0 d ≡ groups_from b gr n 0 (begin b)
   groups-begin n d e = let z : n - 0 ≡ n = omega arith in rw (e, z)
 
 pub begin-free : (b : Build) (d : Doing) → d ≡ begin b → d.freedom ≡ 0

@@ -2,28 +2,28 @@
 -- order, until one does not converge. The fit, freedom, suspects and lowest point of a group are the room `fit`'s, and the
 -- residuals at the points that are handed out the room `plate`'s.
 use Rattle.std.specs.Prelude.{ℕ, zero, suc, ◌+◌, ◌*◌, min, Bool, cond, not, ◌&&◌, List, eqb, Float, length, get_or, set, replicate}
-use Rattle.answer.specs.Endings.{blankGroup, failedOf, fittedOf}
+use Rattle.answer.specs.Endings.{blank_group, failed_of, fitted_of}
 use Rattle.answer.specs.declared.Answer.{Answer}
 use Rattle.answer.specs.declared.GroupFit.{GroupFit}
 use Rattle.fit.specs.Promise.{padded}
 use Rattle.fit.specs.Frames.{start_in}
-use Rattle.fit.specs.Groups.{lowestOf, freedomIn, frameIn, outcomeAt, suspectsAt}
+use Rattle.fit.specs.Groups.{lowest_of, freedom_in, frame_in, outcome_at, suspects_at}
 use Rattle.fit.specs.declared.Frame.{Frame}
 use Rattle.fit.specs.declared.Degrees.{Degrees}
-use Rattle.groups.specs.Listed.{groupingOf}
+use Rattle.groups.specs.Listed.{grouping_of}
 use Rattle.groups.specs.declared.Grouping.{Grouping}
 use Rattle.loops.specs.Turns.{up_to}
-use Rattle.members.specs.Lists.{numbersOf}
+use Rattle.members.specs.Lists.{numbers_of}
 use Rattle.members.specs.Movable.{fixed_of, nowhere}
-use Rattle.members.specs.Scale.{unscaleOf}
-use Rattle.plate.specs.Worst.{worstOf}
-use Rattle.rounds.specs.Reasons.{code_of, namedColumn, code_in, namedColumnIn}
+use Rattle.members.specs.Scale.{unscale_of}
+use Rattle.plate.specs.Worst.{worst_of}
+use Rattle.rounds.specs.Reasons.{code_of, named_column, code_in, named_column_in}
 use Rattle.rounds.specs.Solve.{Outcome, converged, failed}
 use Rattle.rounds.specs.declared.Reason.{Reason}
 use Rattle.rounds.specs.declared.Solved.{Solved}
 use Rattle.sketch.specs.declared.Build.{Build}
 use Rattle.sketch.specs.declared.Point.{Point}
-use Rattle.job.specs.Points.{drawn, levelled, handedOut}
+use Rattle.job.specs.Points.{drawn, levelled, handed_out}
 use Rattle.job.specs.declared.Doing.{Doing}
 use Rattle.job.specs.declared.Went.{Went}
 
@@ -49,67 +49,67 @@ count_of Degrees.TooManyRows = 0
 -- `Ok(GroupResult { points: eq.unscale(g, &x), dof, free })` and what `solve` does with it, of group g, which is set out as f
 unfoldable pub taken_of : Build → Frame → ℕ → List Float → ℕ → ℕ → Doing → Doing
 taken_of b f g x i t d = record {
-  points = unscaleOf b.points b.centre b.size (numbersOf f.points.0) x d.points;
-  freedom = d.freedom + freedomIn b f x;
-  groups = set d.groups g (record { lowest = lowestOf f; freedom = freedomIn b f x; iterations = i; tries = t; code = 0; column = 0 });
+  points = unscale_of b.points b.centre b.size (numbers_of f.points.0) x d.points;
+  freedom = d.freedom + freedom_in b f x;
+  groups = set d.groups g (record { lowest = lowest_of f; freedom = freedom_in b f x; iterations = i; tries = t; code = 0; column = 0 });
 }
 
 -- what is answered of a group, set out as f, that does not converge: document 02's code and column with its lowest point and counts
-abbrev pub failingOf : Frame → Reason → ℕ → ℕ → GroupFit
-failingOf f w i t = record { lowest = lowestOf f; freedom = 0; iterations = i; tries = t; code = code_of w; column = namedColumn w }
+abbrev pub failing_of : Frame → Reason → ℕ → ℕ → GroupFit
+failing_of f w i t = record { lowest = lowest_of f; freedom = 0; iterations = i; tries = t; code = code_of w; column = named_column w }
 
 -- as the code has it from how the fit ended
-abbrev pub failingBy : Frame → Solved → GroupFit
-failingBy f s = record { lowest = lowestOf f; freedom = 0; iterations = s.iterations; tries = s.tries; code = code_in s.ending; column = namedColumnIn s.ending }
+abbrev pub failing_by : Frame → Solved → GroupFit
+failing_by f s = record { lowest = lowest_of f; freedom = 0; iterations = s.iterations; tries = s.tries; code = code_in s.ending; column = named_column_in s.ending }
 
 -- `match fitted`; the coordinates of a fit stand at the head of 80 places
-abbrev pub stepBy : Build → Frame → ℕ → Doing → Outcome → Result
-stepBy b f g d (converged x i t) = fits (taken_of b f g (padded (length (start_in b f)) x) i t d)
-stepBy b f g d (failed w i t) = fails g (failingOf f w i t)
+abbrev pub step_by : Build → Frame → ℕ → Doing → Outcome → Result
+step_by b f g d (converged x i t) = fits (taken_of b f g (padded (length (start_in b f)) x) i t d)
+step_by b f g d (failed w i t) = fails g (failing_of f w i t)
 
 -- free, and in no group
-abbrev pub looseBy : Point → ℕ → Bool
-looseBy q group = eqb group 40 && not (fixed_of q)
+abbrev pub loose_by : Point → ℕ → Bool
+loose_by q group = eqb group 40 && not (fixed_of q)
 
-abbrev pub looseIn : List Point → List ℕ → ℕ → Bool
-looseIn points of p = looseBy (get_or points p nowhere) (get_or of p 0)
+abbrev pub loose_in : List Point → List ℕ → ℕ → Bool
+loose_in points of p = loose_by (get_or points p nowhere) (get_or of p 0)
 
 unfoldable pub loose_at : List Point → List ℕ → ℕ → ℕ → ℕ
-loose_at points of p n = cond (looseIn points of p) (n + 1) n
+loose_at points of p n = cond (loose_in points of p) (n + 1) n
 
 -- how many of the first n points are
-unfoldable pub looseOf : List Point → List ℕ → ℕ → ℕ
-looseOf points of n = up_to n 0 (loose_at points of) 0
+unfoldable pub loose_of : List Point → List ℕ → ℕ → ℕ
+loose_of points of n = up_to n 0 (loose_at points of) 0
 
 module _ (b : Build) (gr : Grouping) where
   unfoldable pub step_of : ℕ → Doing → Result
-  step_of g d = stepBy b (frameIn b gr g) g d (outcomeAt b gr g)
+  step_of g d = step_by b (frame_in b gr g) g d (outcome_at b gr g)
 
   -- the k groups from g on
-  unfoldable pub groupsFrom : ℕ → ℕ → Doing → Result
-  groupsFrom zero g d = fits d
-  groupsFrom (suc k) g d = followed (step_of g d) (groupsFrom k (g + 1))
+  unfoldable pub groups_from : ℕ → ℕ → Doing → Result
+  groups_from zero g d = fits d
+  groups_from (suc k) g d = followed (step_of g d) (groups_from k (g + 1))
 
   -- of 40 groups at most, and there are no more (proofs/Few.antt)
-  abbrev pub groupCount : ℕ
-  groupCount = min gr.count 40
+  abbrev pub group_count : ℕ
+  group_count = min gr.count 40
 
   -- `eq.unconstrained.len()`
-  abbrev pub looseCount : ℕ
-  looseCount = looseOf b.points gr.of_point b.point_count
+  abbrev pub loose_count : ℕ
+  loose_count = loose_of b.points gr.of_point b.point_count
 
-  abbrev pub answerBy : Result → Answer
-  answerBy (fits d) = fittedOf groupCount d.groups (d.freedom + 2 * looseCount) (worstOf b (levelled b d.points))
-  answerBy (fails g u) = failedOf u (suspectsAt b gr g)
+  abbrev pub answer_by : Result → Answer
+  answer_by (fits d) = fitted_of group_count d.groups (d.freedom + 2 * loose_count) (worst_of b (levelled b d.points))
+  answer_by (fails g u) = failed_of u (suspects_at b gr g)
 
-  abbrev pub outputBy : Result → List Float → List Float
-  outputBy (fits d) out = handedOut b d.points out
-  outputBy (fails g u) out = out
+  abbrev pub output_by : Result → List Float → List Float
+  output_by (fits d) out = handed_out b d.points out
+  output_by (fails g u) out = out
 
 -- before the first group
 unfoldable pub begin : Build → Doing
-begin b = record { points = drawn b.points; freedom = 0; groups = replicate 40 blankGroup }
+begin b = record { points = drawn b.points; freedom = 0; groups = replicate 40 blank_group }
 
 -- what the groups of a build come to
-unfoldable pub fitOf : Build → Result
-fitOf b = groupsFrom b (groupingOf b) (groupCount b (groupingOf b)) 0 (begin b)
+unfoldable pub fit_of : Build → Result
+fit_of b = groups_from b (grouping_of b) (group_count b (grouping_of b)) 0 (begin b)

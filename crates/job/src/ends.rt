@@ -1,7 +1,7 @@
 // How a job ends.
 ghost use Rattle.std.specs.Prelude.{◌≡◌, ◌+◌, ◌*◌, ◌≤◌, length};
-ghost use Rattle.groups.specs.Listed.{groupingOf};
-ghost use Rattle.job.specs.Groups.{fits, fails, fitOf, answerBy, outputBy};
+ghost use Rattle.groups.specs.Listed.{grouping_of};
+ghost use Rattle.job.specs.Groups.{fits, fails, fit_of, answer_by, output_by};
 ghost use Rattle.job.specs.Promise.{Does};
 ghost use Rattle.rounds.specs.Promise.{zeroed};
 
@@ -18,7 +18,7 @@ use sketch::{Build, Checked};
 // Every group is fitted.
 fn fitted(b: Build, gr: Grouping, d: Doing, out: &mut [f64]) -> Answer
     requires { (b.point_count ≤ 40) × (b.measure_count ≤ 20) × (2 * b.point_count + b.measure_count ≤ length out.old) × (d.freedom ≤ 3280) }
-    ensures { (result ≡ answerBy b gr (fits d)) × (out.new ≡ outputBy b gr (fits d) out.old) }
+    ensures { (result ≡ answer_by b gr (fits d)) × (out.new ≡ output_by b gr (fits d) out.old) }
 {
     let points = d.points;
     let groups = d.groups;
@@ -41,7 +41,7 @@ fn failed(
     r: &mut [f64],
 ) -> Answer
     requires { (6400 ≤ length p.old) × (6400 ≤ length q.old) × (6400 ≤ length r.old) }
-    ensures { result ≡ answerBy b gr (fails g failure) }
+    ensures { result ≡ answer_by b gr (fails g failure) }
 {
     let points = b.points;
     let f = fit::set_out(points, gr, g);
@@ -53,7 +53,7 @@ fn failed(
 fn fit_all(b: Build, out: &mut [f64], p: &mut [f64], q: &mut [f64], r: &mut [f64]) -> Answer
     requires { (b.point_count ≤ 40) × (b.measure_count ≤ 20) × (2 * b.point_count + b.measure_count ≤ length out.old)
         × (6400 ≤ length p.old) × (6400 ≤ length q.old) × (6400 ≤ length r.old) }
-    ensures { (result ≡ answerBy b (groupingOf b) (fitOf b)) × (out.new ≡ outputBy b (groupingOf b) (fitOf b) out.old) }
+    ensures { (result ≡ answer_by b (grouping_of b) (fit_of b)) × (out.new ≡ output_by b (grouping_of b) (fit_of b) out.old) }
 {
     let gr = groups::groups(b);
     let w = all_groups(b, gr, smaller(gr.count, 40), p, q, r);
@@ -69,7 +69,7 @@ fn fit_all(b: Build, out: &mut [f64], p: &mut [f64], q: &mut [f64], r: &mut [f64
 fn in_areas(b: Build, out: &mut [f64], p: &mut [f64], q: &mut [f64], r: &mut [f64]) -> Answer
     requires { (b.point_count ≤ 40) × (b.measure_count ≤ 20) × (2 * b.point_count + b.measure_count ≤ length out.old)
         × (6400 ≤ length p.old) × (6400 ≤ length q.old) × (6400 ≤ length r.old) }
-    ensures { (result ≡ answerBy b (groupingOf b) (fitOf b)) × (out.new ≡ outputBy b (groupingOf b) (fitOf b) out.old)
+    ensures { (result ≡ answer_by b (grouping_of b) (fit_of b)) × (out.new ≡ output_by b (grouping_of b) (fit_of b) out.old)
         × (p.new ≡ zeroed 6400 p.old) × (q.new ≡ zeroed 6400 q.old) × (r.new ≡ zeroed 6400 r.old) }
 {
     let a = fit_all(b, out, &mut p[..6400], &mut q[..6400], &mut r[..6400]);

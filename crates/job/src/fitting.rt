@@ -1,7 +1,7 @@
 // One group: its fit, and what is taken over from it.
 ghost use Rattle.std.specs.Prelude.{◌≡◌, ◌+◌, ◌≤◌, ◌<◌, length};
-ghost use Rattle.fit.specs.Groups.{lowestOf};
-ghost use Rattle.job.specs.Groups.{taken_of, failingBy, result_of, step_of};
+ghost use Rattle.fit.specs.Groups.{lowest_of};
+ghost use Rattle.job.specs.Groups.{taken_of, failing_by, result_of, step_of};
 
 use crate::freedoms::freedom_at;
 use crate::{Doing, Went};
@@ -12,7 +12,7 @@ use rounds::{Solved, converged};
 use sketch::Build;
 
 fn lowest(f: Frame) -> usize
-    ensures { result ≡ lowestOf f }
+    ensures { result ≡ lowest_of f }
 {
     let listed = f.points.0;
     let items = listed.items;
@@ -59,7 +59,7 @@ fn taken(
 
 // What is answered of a group whose fit ended so: why it failed, by document 02's code.
 fn failing(f: Frame, s: Solved) -> GroupFit
-    ensures { result ≡ failingBy f s }
+    ensures { result ≡ failing_by f s }
 {
     let ending = s.ending;
     GroupFit {

@@ -1,7 +1,7 @@
 // The freedom of a group, and of the points in no group.
 ghost use Rattle.std.specs.Prelude.{◌≡◌, cond, ◌+◌, ◌≤◌, ◌<◌, length};
-ghost use Rattle.fit.specs.Groups.{freedomIn};
-ghost use Rattle.job.specs.Groups.{count_of, looseBy, looseCount};
+ghost use Rattle.fit.specs.Groups.{freedom_in};
+ghost use Rattle.job.specs.Groups.{count_of, loose_by, loose_count};
 
 use fit::{Degrees, Frame};
 use groups::{Grouping, NO_GROUP};
@@ -27,13 +27,13 @@ pub(crate) fn freedom_at(
     r: &mut [f64],
 ) -> usize
     requires { (6400 ≤ length p.old) × (6400 ≤ length q.old) × (6400 ≤ length r.old) }
-    ensures { (result ≡ freedomIn b f x.now) × (result ≤ 80) }
+    ensures { (result ≡ freedom_in b f x.now) × (result ≤ 80) }
 {
     count(fit::freedom(b, f, x, p, q, r))
 }
 
 fn is_loose(q: Point, group: usize) -> bool
-    ensures { result ≡ looseBy q group }
+    ensures { result ≡ loose_by q group }
 {
     (group == NO_GROUP) & !members::fixed(q)
 }
@@ -48,7 +48,7 @@ fn counted(k: usize, wanted: bool) -> usize
 // How many points of the build are free and in no group.
 pub(crate) fn loose(b: Build, gr: Grouping) -> usize
     requires { b.point_count ≤ 40 }
-    ensures { (result ≡ looseCount b gr) × (result ≤ 40) }
+    ensures { (result ≡ loose_count b gr) × (result ≤ 40) }
 {
     let points = b.points;
     let of_point = gr.of_point;

@@ -1,5 +1,8 @@
 // The whole job on a build (lib.rs, `solve` and `solve_group`): check it, group it, fit each group, bring the points back to size,
 // put the placed ones, level and measure.
+
+#![tactic(auto)]
+
 mod ends;
 mod fitting;
 mod freedoms;

@@ -1,14 +1,14 @@
 // The points of a build in one array, x, y, x, y, ..: where they were drawn, and the placed ones at their places.
 ghost use Rattle.std.specs.Prelude.{◌≡◌, ◌<◌};
-ghost use Rattle.members.specs.Scale.{putPoint};
-ghost use Rattle.job.specs.Points.{drawn, placeState, placedIn};
+ghost use Rattle.members.specs.Scale.{put_point};
+ghost use Rattle.job.specs.Points.{drawn, place_state, placed_in};
 
 use plane::Vec2;
 use sketch::{Point, State};
 
 fn put_point(out: &mut [f64], p: usize, at: Vec2)
     requires { p < 40 }
-    ensures { out.new ≡ putPoint p at out.old }
+    ensures { out.new ≡ put_point p at out.old }
 {
     floats::put(out, 2 * p, at.x);
     floats::put(out, 2 * p + 1, at.y);
@@ -29,7 +29,7 @@ pub(crate) fn starts(points: [Point; 40]) -> [f64; 80]
 
 fn place(out: &mut [f64], p: usize, state: State)
     requires { p < 40 }
-    ensures { out.new ≡ placeState state p out.old }
+    ensures { out.new ≡ place_state state p out.old }
 {
     match state {
         State::Free => {}
@@ -40,7 +40,7 @@ fn place(out: &mut [f64], p: usize, state: State)
 
 // Every placed point at its place.
 pub(crate) fn place_all(points: [Point; 40], out: &mut [f64])
-    ensures { out.new ≡ placedIn points out.old }
+    ensures { out.new ≡ placed_in points out.old }
 {
     for p in 0..40 {
         let q = points[p];

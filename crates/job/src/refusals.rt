@@ -1,14 +1,14 @@
 // What a job ends in before its fit, in document 01's order: 3, 9, then the rest of the check.
 ghost use Rattle.std.specs.Prelude.{◌≡◌, false};
-ghost use Rattle.job.specs.Promise.{noRoom, roomOf, first_of, verdictOf};
-ghost use Rattle.sketch.specs.Check.{overBound};
+ghost use Rattle.job.specs.Promise.{no_room, room_of, first_refusal_of, verdict_of};
+ghost use Rattle.sketch.specs.Check.{over_bound};
 
 use sketch::{Build, Checked, Ending, counts_over};
 
 // 9: the output or an area is too short.
 fn room(b: Build, out: usize, p: usize, q: usize, r: usize) -> Checked
-    requires { overBound b ≡ false }
-    ensures { result ≡ roomOf (noRoom b out p q r) }
+    requires { over_bound b ≡ false }
+    ensures { result ≡ room_of (no_room b out p q r) }
 {
     if (out < 2 * b.point_count + b.measure_count) | (p < 6400) | (q < 6400) | (r < 6400) {
         return Checked::Ends(Ending::TooShort);
@@ -17,7 +17,7 @@ fn room(b: Build, out: usize, p: usize, q: usize, r: usize) -> Checked
 }
 
 fn first(one: Checked, other: Checked) -> Checked
-    ensures { result ≡ first_of one other }
+    ensures { result ≡ first_refusal_of one other }
 {
     match one {
         Checked::Ends(e) => Checked::Ends(e),
@@ -27,7 +27,7 @@ fn first(one: Checked, other: Checked) -> Checked
 
 // The numbers are the lengths of what is lent.
 pub(crate) fn verdict(b: Build, out: usize, p: usize, q: usize, r: usize) -> Checked
-    ensures { result ≡ verdictOf b out p q r }
+    ensures { result ≡ verdict_of b out p q r }
 {
     if counts_over(b) {
         return Checked::Ends(Ending::TooMany);

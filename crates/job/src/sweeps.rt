@@ -1,6 +1,6 @@
 // The groups one after another.
 ghost use Rattle.std.specs.Prelude.{◌≡◌, ◌≤◌, length};
-ghost use Rattle.job.specs.Groups.{begin, groupsFrom, result_of};
+ghost use Rattle.job.specs.Groups.{begin, groups_from, result_of};
 
 use crate::fitting::one_group;
 use crate::points::starts;
@@ -31,7 +31,7 @@ pub(crate) fn all_groups(
     r: &mut [f64],
 ) -> Went
     requires { (n ≤ 40) × (6400 ≤ length p.old) × (6400 ≤ length q.old) × (6400 ≤ length r.old) }
-    ensures { (result_of result ≡ groupsFrom b gr n 0 (begin b)) × (result.doing.freedom ≤ 3280) }
+    ensures { (result_of result ≡ groups_from b gr n 0 (begin b)) × (result.doing.freedom ≤ 3280) }
 {
     let mut d = begun(b);
     for g in 0..n {

@@ -1,7 +1,7 @@
 -- Laws of the parents. A point's rank falls on the way up: fixed points come first, and then the others, each by number. A
 -- function ρ is the parents' roots if a point shares its root with its parent and a root is its own.
 --     rooted       what ρ gives is a root, and of no higher rank
---     find-has     `findOf` leaves parents of the same roots
+--     find-has     `find_of` leaves parents of the same roots
 --     find-is      and answers the root: its turns are enough
 -- Assumes nothing.
 use Prim.Native.Nat.{ℕ, zero, suc, ◌+◌, ◌≤◌, ◌<◌}
@@ -15,8 +15,8 @@ use borrow.Author.Tests.{eqb-true, eqb-false}
 use lib.Dec.{T, eqb}
 use lib.ListN.{length, get_or, set, length-set, get_or-eq_default}
 use lib.Seq.{get_or-set_same, get_or-set_other, set_out}
-use Rattle.loops.specs.Turns.{whiles, whileTo}
-use Rattle.level.specs.Parents.{up, Gives, below, skipped, halved, findOf}
+use Rattle.loops.specs.Turns.{whiles, while_to}
+use Rattle.level.specs.Parents.{up, Gives, below, skipped, halved, find_of}
 
 abbrev pub fixed_at : List Bool → ℕ → Bool
 fixed_at fixed x = get_or fixed x false
@@ -179,10 +179,10 @@ module _ (fixed : List Bool) (few : length fixed ≤ 40) where
           r (λ m. l) ∙ (skipped-has ps ρ has x).same x
 
   module _ (ps : List ℕ) (ρ : ℕ → ℕ) (has : Has ps ρ) where
-    pub find-has : (x : ℕ) → Has (findOf ps x).parents ρ
-    unfolding findOf whileTo
+    pub find-has : (x : ℕ) → Has (find_of ps x).parents ρ
+    unfolding find_of while_to
     find-has x = walk-has 80 0 ps ρ x has
 
-    pub find-is : (x : ℕ) → (findOf ps x).answer ≡ ρ x
-    unfolding findOf whileTo
+    pub find-is : (x : ℕ) → (find_of ps x).answer ≡ ρ x
+    unfolding find_of while_to
     find-is x = walk_is 80 0 ps ρ x has (λ n. rank-small x (moves-inside ps ρ has x n))

@@ -12,16 +12,16 @@ use borrow.Author.Tests.{ltb-true, ltb-false, eq-eqb, ne_eqb}
 use lib.Dec.{T, eqb}
 use lib.ListN.{length, set, replicate, length-set, get_or-eq_default}
 use lib.Seq.{get_or-set_same, get_or-set_other, set_out}
-use Rattle.level.specs.Parents.{up, findOf, greater, aWins, joinTo, selfAt, alone}
+use Rattle.level.specs.Parents.{up, find_of, greater, a_wins, join_to, self_at, alone}
 use Rattle.level.proofs.Forest.{fixed_at, ranked, rank, inside, stored, rank-small, rank-inside, Has, rooted, find-has, find-is}
-use Rattle.loops.proofs.Keeps.{upTo-keeps}
+use Rattle.loops.proofs.Keeps.{up_to-keeps}
 
 -- the first i points are their own parents
 Own : ℕ → List ℕ → Type 0
 Own i ps = (length ps ≡ 40) × ((x : ℕ) → x < i → up ps x ≡ x)
 
-own-next : (i : ℕ) (ps : List ℕ) → i < 40 → Own i ps → Own (i + 1) (selfAt i ps)
-unfolding Own selfAt
+own-next : (i : ℕ) (ps : List ℕ) → i < 40 → Own i ps → Own (i + 1) (self_at i ps)
+unfolding Own self_at
 own-next i ps h p = (length-set ps i i ∙ p.0, λ x l. at x l (ℕ_discrete x i))
   where
     at : (x : ℕ) → x < i + 1 → Dec (x ≡ i) → up (set ps i i) x ≡ x
@@ -30,7 +30,7 @@ own-next i ps h p = (length-set ps i i ∙ p.0, λ x l. at x l (ℕ_discrete x i
 
 own : Own 40 alone
 unfolding Own
-own = upTo-keeps Own selfAt 40 own-next 0 (replicate 40 0) (omega arith) (refl, λ x h. absurd (not-suc-le-zero h))
+own = up_to-keeps Own self_at 40 own-next 0 (replicate 40 0) (omega arith) (refl, λ x h. absurd (not-suc-le-zero h))
 
 own-up : (x : ℕ) → up alone x ≡ x
 unfolding Own
@@ -161,17 +161,17 @@ module _ (fixed : List Bool) (few : length fixed ≤ 40) where
           moved = λ x. inl refl;
         }
 
-  pub join-roots : (a b : ℕ) (ps : List ℕ) (ρ : ℕ → ℕ) → Has fixed few ps ρ → Joined ρ a b (joinTo fixed a b ps)
-  unfolding joinTo aWins
+  pub join-roots : (a b : ℕ) (ps : List ℕ) (ρ : ℕ → ℕ) → Has fixed few ps ρ → Joined ρ a b (join_to fixed a b ps)
+  unfolding join_to a_wins
   join-roots a b ps ρ has =
       let first = find-has fixed few ps ρ has a in
-      let both = find-has fixed few (findOf ps a).parents ρ first b in
-      rw (find-is fixed few ps ρ has a, find-is fixed few (findOf ps a).parents ρ first b)
-      (go both (aWins fixed (ρ a) (ρ b)) refl)
+      let both = find-has fixed few (find_of ps a).parents ρ first b in
+      rw (find-is fixed few ps ρ has a, find-is fixed few (find_of ps a).parents ρ first b)
+      (go both (a_wins fixed (ρ a) (ρ b)) refl)
     where
-      go : Has fixed few (findOf (findOf ps a).parents b).parents ρ → (w : Bool) → aWins fixed (ρ a) (ρ b) ≡ w
+      go : Has fixed few (find_of (find_of ps a).parents b).parents ρ → (w : Bool) → a_wins fixed (ρ a) (ρ b) ≡ w
           → Joined ρ a b
-          (cond w (set (findOf (findOf ps a).parents b).parents (ρ b) (ρ a)) (set (findOf (findOf ps a).parents b).parents (ρ a) (ρ b)))
+          (cond w (set (find_of (find_of ps a).parents b).parents (ρ b) (ρ a)) (set (find_of (find_of ps a).parents b).parents (ρ a) (ρ b)))
       go h true e =
           turned ρ b a _
           (placed _ ρ h b a (ahead (fixed_at fixed (ρ a)) (fixed_at fixed (ρ b)) (ρ a) (ρ b) (inside fixed few (ρ a)) e))

@@ -9,8 +9,8 @@ use native.Mathlib.Omega.{arith}
 use lib.ListN.{length}
 use Rattle.loops.specs.Turns.{fold}
 use Rattle.sketch.specs.declared.Active.{Active}
-use Rattle.level.specs.Level.{Asks, levels, nothing, asksOf, joinAsked, joinEquation, joined}
-use Rattle.level.specs.Parents.{up, findOf, alone}
+use Rattle.level.specs.Level.{Asks, levels, nothing, asks_of, join_asked, join_equation, joined}
+use Rattle.level.specs.Parents.{up, find_of, alone}
 use Rattle.level.specs.Runs as runs
 use Rattle.level.specs.Runs.{Reached, Tied, Run, here, on, back, Ahead, Root}
 use Rattle.level.proofs.Forest.{fixed_at, ranked, inside, Has, rooted, find-has, find-is}
@@ -30,11 +30,11 @@ module _ (fixed : List Bool) (few : length fixed ≤ 40) where
       (j.roots, j.has)
 
   -- 80 turns are enough: where a walk stops, it has come to a root
-  pub walk_ends : (ps : List ℕ) → Reached fixed ps → (x : ℕ) → up (findOf ps x).parents (findOf ps x).answer ≡ (findOf ps x).answer
+  pub walk_ends : (ps : List ℕ) → Reached fixed ps → (x : ℕ) → up (find_of ps x).parents (find_of ps x).answer ≡ (find_of ps x).answer
   walk_ends ps r x =
       let f = reached r in
       rw (find-is fixed few ps f.0 f.1 x)
-      (rooted fixed few (findOf ps x).parents f.0 (find-has fixed few ps f.0 f.1 x) x).0
+      (rooted fixed few (find_of ps x).parents f.0 (find-has fixed few ps f.0 f.1 x) x).0
 
 module _ (axis : ℕ) (es : List Active) where
   run-trans : {p r q : ℕ} → Run axis es p r → Run axis es r q → Run axis es p q
@@ -65,15 +65,15 @@ module _ (fixed : List Bool) (few : length fixed ≤ 40) (axis : ℕ) (es : List
         run-trans axis es (subst (Run axis es p) e (linked p))
         (run-trans axis es (run-sym axis es (linked a)) (run-trans axis es t (linked b)))
 
-    one : (e : Active) → Memᴰ e es → Told ρ (e ∷ []) (joinEquation axis fixed ps e)
-    unfolding joinEquation
-    one e m = go (asksOf axis e.equation) refl
+    one : (e : Active) → Memᴰ e es → Told ρ (e ∷ []) (join_equation axis fixed ps e)
+    unfolding join_equation
+    one e m = go (asks_of axis e.equation) refl
       where
-        same : (q : Asks) → asksOf axis e.equation ≡ q → (a b : ℕ) → Tied axis (e ∷ []) a b → q ≡ levels a b
+        same : (q : Asks) → asks_of axis e.equation ≡ q → (a b : ℕ) → Tied axis (e ∷ []) a b → q ≡ levels a b
         same q h a b t =
-            sym h ∙ ap (λ f. asksOf axis f.equation) (sym (Memᴰ.eq_of_singleton t.1)) ∙ t.2
+            sym h ∙ ap (λ f. asks_of axis f.equation) (sym (Memᴰ.eq_of_singleton t.1)) ∙ t.2
 
-        go : (q : Asks) → asksOf axis e.equation ≡ q → Told ρ (e ∷ []) (joinAsked fixed ps q)
+        go : (q : Asks) → asks_of axis e.equation ≡ q → Told ρ (e ∷ []) (join_asked fixed ps q)
         go (levels a b) h =
             let tie : Tied axis es a b = (e, m, h) in
             let j = join-roots fixed few a b ps ρ has in
@@ -104,7 +104,7 @@ module _ (fixed : List Bool) (few : length fixed ≤ 40) (axis : ℕ) (es : List
             never a b q = cc
 
   told : (l : List Active) → ((e : Active) → Memᴰ e l → Memᴰ e es) → (ps : List ℕ) (ρ : ℕ → ℕ) → Has fixed few ps ρ
-      → ((p : ℕ) → Run axis es p (ρ p)) → Told ρ l (fold (joinEquation axis fixed) ps l)
+      → ((p : ℕ) → Run axis es p (ρ p)) → Told ρ l (fold (join_equation axis fixed) ps l)
   unfolding fold
   told [] within ps ρ has linked = record {
     roots = ρ;
@@ -115,7 +115,7 @@ module _ (fixed : List Bool) (few : length fixed ≤ 40) (axis : ℕ) (es : List
   }
   told (e ∷ l) within ps ρ has linked =
       let s = one ps ρ has linked e (within e (Memᴰ.head refl)) in
-      let t = told l (λ f m. within f (Memᴰ.tail m)) (joinEquation axis fixed ps e) s.roots s.has s.linked in
+      let t = told l (λ f m. within f (Memᴰ.tail m)) (join_equation axis fixed ps e) s.roots s.has s.linked in
       record {
         roots = t.roots;
         has = t.has;
@@ -134,15 +134,15 @@ module _ (fixed : List Bool) (few : length fixed ≤ 40) (axis : ℕ) (es : List
   unfolding joined
   swept = told es (λ e m. m) alone (λ x. x) (alone-has fixed few) (λ p. here)
 
-  pub runRoot : ℕ → ℕ
-  runRoot = swept.roots
+  pub run_root : ℕ → ℕ
+  run_root = swept.roots
 
-  pub run-has : Has fixed few (joined axis fixed es alone) runRoot
-  unfolding runRoot
+  pub run-has : Has fixed few (joined axis fixed es alone) run_root
+  unfolding run_root
   run-has = swept.has
 
-  run-one : {p q : ℕ} → Run axis es p q → runRoot p ≡ runRoot q
-  unfolding runRoot
+  run-one : {p q : ℕ} → Run axis es p q → run_root p ≡ run_root q
+  unfolding run_root
   run-one here = refl
   run-one (on {p = p} {r = r} t s) = swept.met p r t ∙ run-one s
   run-one (back {p = p} {r = r} t s) = sym (swept.met r p t) ∙ run-one s
@@ -153,11 +153,11 @@ module _ (fixed : List Bool) (few : length fixed ≤ 40) (axis : ℕ) (es : List
   ordered false true r q i h = omega (arith, i refl)
   ordered false false r q i h = omega arith
 
-  pub run-root : (p : ℕ) → Root fixed axis es p (runRoot p)
-  unfolding runRoot
+  pub run-root : (p : ℕ) → Root fixed axis es p (run_root p)
+  unfolding run_root
   run-root p = record {
     inside = swept.linked p;
     first = λ q s.
-        ordered (fixed_at fixed (runRoot p)) (fixed_at fixed q) (runRoot p) q (inside fixed few q)
-        (rw (run-one s) (rooted fixed few (joined axis fixed es alone) runRoot run-has q).1);
+        ordered (fixed_at fixed (run_root p)) (fixed_at fixed q) (run_root p) q (inside fixed few q)
+        (rw (run-one s) (rooted fixed few (joined axis fixed es alone) run_root run-has q).1);
   }

@@ -14,10 +14,10 @@ use lib.Ieee.{Float, nan}
 use lib.ListN.{length, get_or, set, length-set}
 use lib.Seq.{get_or-set_same, get_or-set_other}
 use Rattle.loops.specs.Turns.{up_to}
-use Rattle.level.specs.Level.{place, follows, levelPoint, levelPoints}
-use Rattle.level.specs.Parents.{Gives, findOf}
+use Rattle.level.specs.Level.{place, follows, level_point, level_points}
+use Rattle.level.specs.Parents.{Gives, find_of}
 use Rattle.level.proofs.Forest.{fixed_at, Has, rooted, find-has, find-is}
-use Rattle.loops.proofs.Keeps.{upTo-keeps}
+use Rattle.loops.proofs.Keeps.{up_to-keeps}
 
 module _ (fixed : List Bool) (few : length fixed ≤ 40) (axis n : ℕ) (ps : List ℕ) (ρ : ℕ → ℕ) (has : Has fixed few ps ρ) (before : List Float) where
   -- p keeps its coordinate: it is fixed, or a root
@@ -61,7 +61,7 @@ module _ (fixed : List Bool) (few : length fixed ≤ 40) (axis n : ℕ) (ps : Li
     untouched : (p : ℕ) → p ≢ i → get_or written (place axis p) nan ≡ get_or s.answer (place axis p) nan
     untouched p q = get_or-set_other s.answer (place axis i) (place axis p) _ nan (apart p i q)
 
-    moved : ρ i ≢ i → fixed_at fixed i ≡ false → Taken (i + 1) (record { parents = (findOf s.parents i).parents; answer = written })
+    moved : ρ i ≢ i → fixed_at fixed i ≡ false → Taken (i + 1) (record { parents = (find_of s.parents i).parents; answer = written })
     moved r f = record {
       forest = find-has fixed few s.parents ρ d.forest i;
       sized = length-set s.answer (place axis i) _ ∙ d.sized;
@@ -85,7 +85,7 @@ module _ (fixed : List Bool) (few : length fixed ≤ 40) (axis n : ℕ) (ps : Li
         wider p (inl l) = inl (omega arith)
         wider p (inr q) = inr q
 
-    still : Stays i → Taken (i + 1) (record { parents = (findOf s.parents i).parents; answer = s.answer })
+    still : Stays i → Taken (i + 1) (record { parents = (find_of s.parents i).parents; answer = s.answer })
     still t = record {
       forest = find-has fixed few s.parents ρ d.forest i;
       sized = d.sized;
@@ -104,12 +104,12 @@ module _ (fixed : List Bool) (few : length fixed ≤ 40) (axis n : ℕ) (ps : Li
         wider p (inl l) = inl (omega arith)
         wider p (inr q) = inr q
 
-    next : Taken (i + 1) (levelPoint axis fixed i s)
-    unfolding levelPoint
+    next : Taken (i + 1) (level_point axis fixed i s)
+    unfolding level_point
     next = rw (find-is fixed few s.parents ρ d.forest i) (go (follows fixed (ρ i) i) refl)
       where
         go : (b : Bool) → follows fixed (ρ i) i ≡ b
-            → Taken (i + 1) (record { parents = (findOf s.parents i).parents; answer = cond b written s.answer })
+            → Taken (i + 1) (record { parents = (find_of s.parents i).parents; answer = cond b written s.answer })
         go true e = let t = yes-not (eqb (ρ i) i) (fixed_at fixed i) e in moved (eqb-false (ρ i) i t.0) t.1
         go false e = still (stays (no-not (eqb (ρ i) i) (fixed_at fixed i) e))
           where
@@ -117,9 +117,9 @@ module _ (fixed : List Bool) (few : length fixed ≤ 40) (axis n : ℕ) (ps : Li
             stays (inl q) = inr (eqb-true (ρ i) i q)
             stays (inr q) = inl q
 
-  done : Taken n (up_to n 0 (levelPoint axis fixed) (record { parents = ps; answer = before }))
+  done : Taken n (up_to n 0 (level_point axis fixed) (record { parents = ps; answer = before }))
   done =
-      upTo-keeps Taken (levelPoint axis fixed) n next 0 (record { parents = ps; answer = before }) (omega arith)
+      up_to-keeps Taken (level_point axis fixed) n next 0 (record { parents = ps; answer = before }) (omega arith)
       (record {
         forest = has;
         sized = refl;
@@ -129,21 +129,21 @@ module _ (fixed : List Bool) (few : length fixed ≤ 40) (axis n : ℕ) (ps : Li
       })
 
   abbrev after : List Float
-  after = levelPoints axis fixed n ps before
+  after = level_points axis fixed n ps before
 
   pub sweep-sized : length after ≡ length before
-  unfolding levelPoints
+  unfolding level_points
   sweep-sized = done.sized
 
   pub sweep-taken : (p : ℕ) → p < n → fixed_at fixed p ≡ false → place axis p < length before
       → get_or after (place axis p) nan ≡ get_or before (place axis (ρ p)) nan
-  unfolding levelPoints
+  unfolding level_points
   sweep-taken = done.taken
 
   pub sweep-kept : (p : ℕ) → fixed_at fixed p ≡ true → get_or after (place axis p) nan ≡ get_or before (place axis p) nan
-  unfolding levelPoints
+  unfolding level_points
   sweep-kept p e = done.kept p (inr (inl e))
 
   pub sweep-other : (j : ℕ) → ((p : ℕ) → p < n → j ≢ place axis p) → get_or after j nan ≡ get_or before j nan
-  unfolding levelPoints
+  unfolding level_points
   sweep-other = done.other

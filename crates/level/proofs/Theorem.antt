@@ -16,20 +16,20 @@ use Rattle.sketch.proofs.Every.{every-cons, every_of}
 use Rattle.sketch.proofs.Given.{given-exactly}
 use Rattle.sketch.proofs.Wholes.{found-lists}
 use Rattle.sketch.proofs.Within.{within}
-use Rattle.sketch.specs.Check.{checkOf}
+use Rattle.sketch.specs.Check.{check_of}
 use Rattle.sketch.specs.Fields.{point}
-use Rattle.sketch.specs.Indices.{foundField, foundEquation, foundActive}
+use Rattle.sketch.specs.Indices.{found_field, found_equation, found_active}
 use Rattle.sketch.specs.Parts.{equations_of}
 use Rattle.sketch.specs.declared.Active.{Active}
 use Rattle.sketch.specs.declared.Build.{Build}
 use Rattle.sketch.specs.declared.Checked.TheVariants.{Passes}
 use Rattle.sketch.specs.declared.Equation.{Equation}
-use Rattle.level.specs.Fixed.{fixed_of, fixedPoint}
-use Rattle.level.specs.Level.{levels, nothing, asksOf, place, joined, levelAxis, levelOf}
+use Rattle.level.specs.Fixed.{fixed_of, fixed_point}
+use Rattle.level.specs.Level.{levels, nothing, asks_of, place, joined, level_axis, level_of}
 use Rattle.level.specs.Parents.{alone}
 use Rattle.level.specs.Runs.{Tied, Levelled}
 use Rattle.level.proofs.Forest.{fixed_at}
-use Rattle.level.proofs.Roots.{runRoot, run-has, run-root}
+use Rattle.level.proofs.Roots.{run_root, run-has, run-root}
 use Rattle.level.proofs.Takes.{sweep-sized, sweep-taken, sweep-kept, sweep-other}
 
 no : (n a b : ℕ) → nothing ≡ levels a b → (a < n) × (b < n)
@@ -41,11 +41,11 @@ module _ (axis n m a b : ℕ) where
   level-found true p q h i = let e : p ≡ a = cc in let f : q ≡ b = cc in (rw (← e) i.0, rw (← f) i.1)
   level-found false p q h i = no n a b h
 
-  asked-found : (e : Equation) → foundEquation n m e ≡ true → asksOf axis e ≡ levels a b → (a < n) × (b < n)
+  asked-found : (e : Equation) → found_equation n m e ≡ true → asks_of axis e ≡ levels a b → (a < n) × (b < n)
   asked-found (Equation.Coincident c d) g h = no n a b h
   asked-found (Equation.Level c d ax) g h =
-      let t = every-cons (foundField n m) (point c) _ g in
-      let u = every-cons (foundField n m) (point d) _ t.1 in
+      let t = every-cons (found_field n m) (point c) _ g in
+      let u = every-cons (found_field n m) (point d) _ t.1 in
       level-found (eqb ax axis) c.0 d.0 h (ltb-true c.0 n t.0, ltb-true d.0 n u.0)
   asked-found (Equation.Parallel i j) g h = no n a b h
   asked-found (Equation.Perpendicular i j) g h = no n a b h
@@ -74,30 +74,30 @@ sides p q e = absurd (omega arith)
 module _ (fixed : List Bool) (few : length fixed ≤ 40) (es : List Active) (n : ℕ)
     (small : (axis a b : ℕ) → Tied axis es a b → (a < 40) × (b < 40)) (points : List Float) where
   abbrev ρ : ℕ → ℕ → ℕ
-  ρ axis = runRoot fixed few axis es (small axis)
+  ρ axis = run_root fixed few axis es (small axis)
 
   abbrev one : List Float
-  one = levelAxis fixed es n 0 points
+  one = level_axis fixed es n 0 points
 
   abbrev two : List Float
-  two = levelAxis fixed es n 1 one
+  two = level_axis fixed es n 1 one
 
   module _ (axis : ℕ) (from : List Float) where
-    sized : length (levelAxis fixed es n axis from) ≡ length from
-    unfolding levelAxis
+    sized : length (level_axis fixed es n axis from) ≡ length from
+    unfolding level_axis
     sized = sweep-sized fixed few axis n (joined axis fixed es alone) (ρ axis) (run-has fixed few axis es (small axis)) from
 
     taken : (p : ℕ) → p < n → fixed_at fixed p ≡ false → place axis p < length from
-        → get_or (levelAxis fixed es n axis from) (place axis p) nan ≡ get_or from (place axis (ρ axis p)) nan
-    unfolding levelAxis
+        → get_or (level_axis fixed es n axis from) (place axis p) nan ≡ get_or from (place axis (ρ axis p)) nan
+    unfolding level_axis
     taken = sweep-taken fixed few axis n (joined axis fixed es alone) (ρ axis) (run-has fixed few axis es (small axis)) from
 
-    kept : (p : ℕ) → fixed_at fixed p ≡ true → get_or (levelAxis fixed es n axis from) (place axis p) nan ≡ get_or from (place axis p) nan
-    unfolding levelAxis
+    kept : (p : ℕ) → fixed_at fixed p ≡ true → get_or (level_axis fixed es n axis from) (place axis p) nan ≡ get_or from (place axis p) nan
+    unfolding level_axis
     kept = sweep-kept fixed few axis n (joined axis fixed es alone) (ρ axis) (run-has fixed few axis es (small axis)) from
 
-    other : (j : ℕ) → ((p : ℕ) → p < n → j ≢ place axis p) → get_or (levelAxis fixed es n axis from) j nan ≡ get_or from j nan
-    unfolding levelAxis
+    other : (j : ℕ) → ((p : ℕ) → p < n → j ≢ place axis p) → get_or (level_axis fixed es n axis from) j nan ≡ get_or from j nan
+    unfolding level_axis
     other = sweep-other fixed few axis n (joined axis fixed es alone) (ρ axis) (run-has fixed few axis es (small axis)) from
 
   both-axes : Levelled fixed es n points two
@@ -121,25 +121,25 @@ module _ (fixed : List Bool) (few : length fixed ≤ 40) (es : List Active) (n :
       keep (suc (suc axis)) p h f = absurd (omega arith)
 
 -- the build's array of points has 40 places
-module _ (b : Build) (array : length b.points ≤ 40) (passes : checkOf b ≡ Passes) where
+module _ (b : Build) (array : length b.points ≤ 40) (passes : check_of b ≡ Passes) where
   count : b.point_count ≤ 40
   count = (within b ((given-exactly b).passes.0 passes).0).0
 
-  found : every (foundActive b.point_count b.line_count) (equations_of b) ≡ true
+  found : every (found_active b.point_count b.line_count) (equations_of b) ≡ true
   found = (found-lists b ((given-exactly b).passes.0 passes).2).1
 
   small : (axis p q : ℕ) → Tied axis (equations_of b) p q → (p < 40) × (q < 40)
   small axis p q t =
-      let e = every_of (foundActive b.point_count b.line_count) (equations_of b) t.0 found t.1 in
+      let e = every_of (found_active b.point_count b.line_count) (equations_of b) t.0 found t.1 in
       let h = asked-found axis b.point_count b.line_count p q t.0.equation e t.2 in
       (omega (arith, h.0, count), omega (arith, h.1, count))
 
   few : length (fixed_of b.points) ≤ 40
   unfolding fixed_of
-  few = rw (length-map b.points fixedPoint) array
+  few = rw (length-map b.points fixed_point) array
 
-  pub levelled : (points : List Float) → Levelled (fixed_of b.points) (equations_of b) b.point_count points (levelOf b points)
-  unfolding levelOf up_to turns
+  pub levelled : (points : List Float) → Levelled (fixed_of b.points) (equations_of b) b.point_count points (level_of b points)
+  unfolding level_of up_to turns
   levelled points =
       rw (min-eq_left count)
       (both-axes (fixed_of b.points) few (equations_of b) b.point_count small points)

@@ -3,13 +3,13 @@ use Rattle.std.specs.Prelude.{Bool, true, false, List, map}
 use Rattle.sketch.specs.declared.Point.{Point}
 use Rattle.sketch.specs.declared.State.{State}
 
-abbrev pub isFixed : State → Bool
-isFixed State.Free = false
-isFixed State.Kept = true
-isFixed (State.Placed at) = true
+abbrev pub is_fixed : State → Bool
+is_fixed State.Free = false
+is_fixed State.Kept = true
+is_fixed (State.Placed at) = true
 
-abbrev pub fixedPoint : Point → Bool
-fixedPoint p = isFixed p.state
+abbrev pub fixed_point : Point → Bool
+fixed_point p = is_fixed p.state
 
 unfoldable pub fixed_of : List Point → List Bool
-fixed_of ps = map fixedPoint ps
+fixed_of ps = map fixed_point ps

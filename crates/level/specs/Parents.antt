@@ -1,6 +1,6 @@
 -- equations.rs, `level`: its `parent`, its `find`, and the joining of two runs.
 use Rattle.std.specs.Prelude.{ℕ, Bool, true, false, not, cond, List, ◌≡◌, ltb, eqb, get_or, set, replicate}
-use Rattle.loops.specs.Turns.{up_to, whileTo}
+use Rattle.loops.specs.Turns.{up_to, while_to}
 
 -- the parent of x; a number past the parents is its own root
 abbrev pub up : List ℕ → ℕ → ℕ
@@ -29,8 +29,8 @@ halved s = let ps = skipped s.parents s.answer in record { parents = ps; answer 
 
 -- `find`: 80 turns are enough on whatever parents the sweeps come by (`Walk-Ends`, proofs/Roots.antt), since each goes to a point
 -- that would win over the one before
-unfoldable pub findOf : List ℕ → ℕ → Gives ℕ
-findOf ps x = whileTo 80 0 below (λ i. halved) (record { parents = ps; answer = x })
+unfoldable pub find_of : List ℕ → ℕ → Gives ℕ
+find_of ps x = while_to 80 0 below (λ i. halved) (record { parents = ps; answer = x })
 
 -- (f, n) > (g, m), as the Rust orders pairs
 abbrev pub greater : Bool → ℕ → Bool → ℕ → Bool
@@ -40,21 +40,21 @@ greater false n true m = false
 greater false n false m = ltb m n
 
 -- let a_wins = (self.fixed[ra], rb) > (self.fixed[rb], ra); a number past the points is not fixed
-unfoldable pub aWins : List Bool → ℕ → ℕ → Bool
-aWins fixed ra rb = greater (get_or fixed ra false) rb (get_or fixed rb false) ra
+unfoldable pub a_wins : List Bool → ℕ → ℕ → Bool
+a_wins fixed ra rb = greater (get_or fixed ra false) rb (get_or fixed rb false) ra
 
 -- the two finds, and then the child under the root
-unfoldable pub joinTo : List Bool → ℕ → ℕ → List ℕ → List ℕ
-joinTo fixed a b ps =
-    let ra = findOf ps a in
-    let rb = findOf ra.parents b in
-    cond (aWins fixed ra.answer rb.answer)
+unfoldable pub join_to : List Bool → ℕ → ℕ → List ℕ → List ℕ
+join_to fixed a b ps =
+    let ra = find_of ps a in
+    let rb = find_of ra.parents b in
+    cond (a_wins fixed ra.answer rb.answer)
     (set rb.parents rb.answer ra.answer)
     (set rb.parents ra.answer rb.answer)
 
 -- every point its own parent
-unfoldable pub selfAt : ℕ → List ℕ → List ℕ
-selfAt i ps = set ps i i
+unfoldable pub self_at : ℕ → List ℕ → List ℕ
+self_at i ps = set ps i i
 
 abbrev pub alone : List ℕ
-alone = up_to 40 0 selfAt (replicate 40 0)
+alone = up_to 40 0 self_at (replicate 40 0)

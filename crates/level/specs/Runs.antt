@@ -4,18 +4,18 @@ use Rattle.std.specs.Prelude.{ℕ, ◌*◌, ◌≤◌, ◌<◌, Bool, true, fals
 use mathlib.Core.List.{List, Memᴰ}
 use Rattle.std.specs.Float.{nan}
 use Rattle.sketch.specs.declared.Active.{Active}
-use Rattle.level.specs.Level.{levels, asksOf, place}
-use Rattle.level.specs.Parents.{findOf, joinTo, alone}
+use Rattle.level.specs.Level.{levels, asks_of, place}
+use Rattle.level.specs.Parents.{find_of, join_to, alone}
 
 -- the parents that the sweeps come by
 pub data Reached (fixed : List Bool) : List ℕ → Type 0 where
   start : Reached fixed alone
-  found : {ps : List ℕ} (x : ℕ) → Reached fixed ps → Reached fixed (findOf ps x).parents
-  joined : {ps : List ℕ} (a b : ℕ) → Reached fixed ps → Reached fixed (joinTo fixed a b ps)
+  found : {ps : List ℕ} (x : ℕ) → Reached fixed ps → Reached fixed (find_of ps x).parents
+  joined : {ps : List ℕ} (a b : ℕ) → Reached fixed ps → Reached fixed (join_to fixed a b ps)
 
 -- an equation asks for a and b to be level on the axis
 abbrev pub Tied : ℕ → List Active → ℕ → ℕ → Type 0
-Tied axis es a b = (e : Active) × Memᴰ e es × (asksOf axis e.equation ≡ levels a b)
+Tied axis es a b = (e : Active) × Memᴰ e es × (asks_of axis e.equation ≡ levels a b)
 
 -- p and q are in one run: such equations lead from one to the other, either way round
 pub data Run (axis : ℕ) (es : List Active) : ℕ → ℕ → Type 0 where

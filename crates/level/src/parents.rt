@@ -1,6 +1,6 @@
 // The parents of one axis: a walk up from a point ends at the root of its run.
 ghost use Rattle.std.specs.Prelude.{◌≡◌, set};
-ghost use Rattle.level.specs.Parents.{up, Leaves, halved, findOf, aWins, joinTo};
+ghost use Rattle.level.specs.Parents.{up, Leaves, halved, find_of, a_wins, join_to};
 
 use crate::table::fixed_at;
 
@@ -32,7 +32,7 @@ fn halve(p: &mut [usize], x: usize) -> usize
 
 // The root of x.
 pub(crate) fn find(p: &mut [usize], x: usize) -> usize
-    ensures { Leaves (findOf p.old x) p.new result }
+    ensures { Leaves (find_of p.old x) p.new result }
 {
     let mut x = x;
     for _ in 0..TURNS {
@@ -46,7 +46,7 @@ pub(crate) fn find(p: &mut [usize], x: usize) -> usize
 
 // Whether of two roots the first stays one: the fixed one, or else the lower.
 fn a_wins(fixed: &[bool], ra: usize, rb: usize) -> bool
-    ensures { result ≡ aWins fixed.now ra rb }
+    ensures { result ≡ a_wins fixed.now ra rb }
 {
     let fa = fixed_at(fixed, ra);
     let fb = fixed_at(fixed, rb);
@@ -55,7 +55,7 @@ fn a_wins(fixed: &[bool], ra: usize, rb: usize) -> bool
 
 // The runs of a and b become one.
 pub(crate) fn join(p: &mut [usize], fixed: &[bool], a: usize, b: usize)
-    ensures { p.new ≡ joinTo fixed.now a b p.old }
+    ensures { p.new ≡ join_to fixed.now a b p.old }
 {
     let ra = find(p, a);
     let rb = find(p, b);

@@ -1,7 +1,7 @@
 // The sweeps of one axis: over the equations, which join runs, and over the points, which take their root's coordinate.
 ghost use Rattle.std.specs.Prelude.{◌≡◌, ◌+◌, ◌*◌, ◌<◌, min, get_or, take};
 ghost use Rattle.std.specs.Float.{nan};
-ghost use Rattle.level.specs.Level.{joinEquation, joined, levelPoint, levelPoints, levelAxis, levelOf};
+ghost use Rattle.level.specs.Level.{join_equation, joined, level_point, level_points, level_axis, level_of};
 ghost use Rattle.level.specs.Parents.{Leaves, alone};
 
 use crate::parents::{find, join};
@@ -22,7 +22,7 @@ fn each_alone() -> [usize; 40]
 
 // A horizontal or vertical of this axis joins its two points.
 fn join_equation(parent: &mut [usize], fixed: &[bool], active: Active, axis: usize)
-    ensures { parent.new ≡ joinEquation axis fixed.now parent.old active }
+    ensures { parent.new ≡ join_equation axis fixed.now parent.old active }
 {
     let e = active.equation;
     if let Equation::Level(a, b, ax) = e {
@@ -63,7 +63,7 @@ fn at(points: &[f64], p: usize, axis: usize) -> f64
 // Point p takes its root's coordinate, unless it is fixed.
 fn level_point(parent: &mut [usize], fixed: &[bool], points: &mut [f64], p: usize, axis: usize)
     requires { (p < 40) × (axis < 2) }
-    ensures { Leaves (levelPoint axis fixed.now p (record { parents = parent.old; answer = points.old })) parent.new points.new }
+    ensures { Leaves (level_point axis fixed.now p (record { parents = parent.old; answer = points.old })) parent.new points.new }
 {
     let root = find(parent, p);
     if (root != p) & !fixed_at(fixed, p) {
@@ -74,7 +74,7 @@ fn level_point(parent: &mut [usize], fixed: &[bool], points: &mut [f64], p: usiz
 
 fn level_points(parent: &mut [usize], fixed: &[bool], points: &mut [f64], n: usize, axis: usize)
     requires { axis < 2 }
-    ensures { points.new ≡ levelPoints axis fixed.now (min n 40) parent.old points.old }
+    ensures { points.new ≡ level_points axis fixed.now (min n 40) parent.old points.old }
 {
     let m = smaller(n, 40);
     for p in 0..m {
@@ -91,7 +91,7 @@ fn level_axis(
     axis: usize,
 )
     requires { axis < 2 }
-    ensures { points.new ≡ levelAxis fixed.now (take equation_count equations) (min point_count 40) axis points.old }
+    ensures { points.new ≡ level_axis fixed.now (take equation_count equations) (min point_count 40) axis points.old }
 {
     let mut parent = each_alone();
     join_equations(&mut parent, fixed, equations, equation_count, axis);
@@ -100,7 +100,7 @@ fn level_axis(
 
 // The points x, y, x, y, .. of a build, levelled.
 pub fn level(b: Build, points: &mut [f64])
-    ensures { points.new ≡ levelOf b points.old }
+    ensures { points.new ≡ level_of b points.old }
 {
     let all = b.points;
     let fixed = fixed_points(all);

@@ -1,11 +1,11 @@
 // Which points are fixed.
 ghost use Rattle.std.specs.Prelude.{false, ◌≡◌, get_or};
-ghost use Rattle.level.specs.Fixed.{isFixed, fixed_of};
+ghost use Rattle.level.specs.Fixed.{is_fixed, fixed_of};
 
 use sketch::{Point, State};
 
 fn is_fixed(s: State) -> bool
-    ensures { result ≡ isFixed s }
+    ensures { result ≡ is_fixed s }
 {
     match s {
         State::Free => false,

@@ -1,9 +1,9 @@
 -- Two loops side by side: what every turn keeps of the two states, the loops keep. Assumes nothing.
---     upTo-both     of a loop that counts
---     tryTo-both    of one whose turns may stop it: both are stopped, or neither
---     whileTo-both  of one that is left where a test fails, which is the same test in both: it holds at the turn they are left at
---     upTo-same, downTo-same   two loops whose turns do the same do the same
---     downTo-foldr  a loop over a list from its end
+--     up_to-both     of a loop that counts
+--     try_to-both    of one whose turns may stop it: both are stopped, or neither
+--     while_to-both  of one that is left where a test fails, which is the same test in both: it holds at the turn they are left at
+--     up_to-same, down_to-same   two loops whose turns do the same do the same
+--     down_to-foldr  a loop over a list from its end
 --     after_both    what holds of two that are stopped, and of what follows two that went on, holds of what comes after
 use Prim.Native.Nat.{ℕ, zero, suc, ◌+◌, ◌-◌, ◌≤◌, ◌<◌}
 use mathlib.Core.Bool.{Bool, true, false}
@@ -12,7 +12,7 @@ use mathlib.Core.Path.{◌≡◌, refl, ap, subst, ◌∙◌}
 use native.Mathlib.Nat.{le_refl}
 use native.Mathlib.Omega.{arith}
 use lib.ListN.{length, get_or}
-use Rattle.loops.specs.Turns.{Try, go, stop, after, InStep, turns, up_to, downTo, tries, tryTo, whiles, whileTo}
+use Rattle.loops.specs.Turns.{Try, go, stop, after, InStep, turns, up_to, down_to, tries, try_to, whiles, while_to}
 
 module _ {S T : Type 0} (R : S → T → Type 0) (f : ℕ → S → S) (g : ℕ → T → T) (lo hi : ℕ) (step : (i : ℕ) (s : S) (t : T) → lo ≤ i → i < hi → R s t → R (f i s) (g i t)) where
   turns-both : (k i : ℕ) (s : S) (t : T) → lo ≤ i → k ≤ hi - i → R s t → R (turns k i f s) (turns k i g t)
@@ -20,12 +20,12 @@ module _ {S T : Type 0} (R : S → T → Type 0) (f : ℕ → S → S) (g : ℕ 
   turns-both zero i s t h e r = r
   turns-both (suc k) i s t h e r = turns-both k (i + 1) (f i s) (g i t) (omega arith) (omega arith) (step i s t h (omega arith) r)
 
-  pub upTo-both : (s : S) (t : T) → R s t → R (up_to hi lo f s) (up_to hi lo g t)
+  pub up_to-both : (s : S) (t : T) → R s t → R (up_to hi lo f s) (up_to hi lo g t)
   unfolding up_to
-  upTo-both s t r = turns-both (hi - lo) lo s t (le_refl lo) (le_refl (hi - lo)) r
+  up_to-both s t r = turns-both (hi - lo) lo s t (le_refl lo) (le_refl (hi - lo)) r
 
-pub upTo-same : {S : Type 0} (f g : ℕ → S → S) (lo hi : ℕ) → ((i : ℕ) (s : S) → lo ≤ i → i < hi → f i s ≡ g i s) → (s : S) → up_to hi lo f s ≡ up_to hi lo g s
-upTo-same f g lo hi turn s = upTo-both (λ s t. s ≡ t) f g lo hi (λ i s t h k e. turn i s h k ∙ ap (g i) e) s s refl
+pub up_to-same : {S : Type 0} (f g : ℕ → S → S) (lo hi : ℕ) → ((i : ℕ) (s : S) → lo ≤ i → i < hi → f i s ≡ g i s) → (s : S) → up_to hi lo f s ≡ up_to hi lo g s
+up_to-same f g lo hi turn s = up_to-both (λ s t. s ≡ t) f g lo hi (λ i s t h k e. turn i s h k ∙ ap (g i) e) s s refl
 
 module _ {A B S T : Type 0} (R : S → T → Type 0) (P : Try A → Try B → Type 0) (stopped : P stop stop) (k : S → Try A) (l : T → Try B)
     (on : (s : S) (t : T) → R s t → P (k s) (l t)) where
@@ -43,9 +43,9 @@ module _ {S T : Type 0} (R : ℕ → S → T → Type 0) (f : ℕ → S → Try 
   tries-both (suc k) i s t e r =
       after_both (R (i + 1)) (InStep (R hi)) tt (tries k (i + 1) f) (tries k (i + 1) g) (λ s t r. tries-both k (i + 1) s t (omega arith) r) (f i s) (g i t) (step i s t (omega arith) r)
 
-  pub tryTo-both : (lo : ℕ) (s : S) (t : T) → lo ≤ hi → R lo s t → InStep (R hi) (tryTo hi lo f s) (tryTo hi lo g t)
-  unfolding tryTo
-  tryTo-both lo s t h r = tries-both (hi - lo) lo s t (omega arith) r
+  pub try_to-both : (lo : ℕ) (s : S) (t : T) → lo ≤ hi → R lo s t → InStep (R hi) (try_to hi lo f s) (try_to hi lo g t)
+  unfolding try_to
+  try_to-both lo s t h r = tries-both (hi - lo) lo s t (omega arith) r
 
 module _ {S T : Type 0} (R : ℕ → S → T → Type 0) (p : ℕ → S → Bool) (q : ℕ → T → Bool) (f : ℕ → S → S) (g : ℕ → T → T) (hi : ℕ)
     (same : (i : ℕ) (s : S) (t : T) → i < hi → R i s t → p i s ≡ q i t)
@@ -62,21 +62,21 @@ module _ {S T : Type 0} (R : ℕ → S → T → Type 0) (p : ℕ → S → Bool
   whiles-both (suc k) i s t e r =
       picked k i s t (q i t) (same i s t (omega arith) r) refl r (λ v. whiles-both k (i + 1) (f i s) (g i t) (omega arith) (step i s t (omega arith) r v))
 
-  pub whileTo-both : (s : S) (t : T) → R 0 s t → (j : ℕ) × R j (whileTo hi 0 p f s) (whileTo hi 0 q g t)
-  unfolding whileTo
-  whileTo-both s t r = whiles-both (hi - 0) 0 s t (omega arith) r
+  pub while_to-both : (s : S) (t : T) → R 0 s t → (j : ℕ) × R j (while_to hi 0 p f s) (while_to hi 0 q g t)
+  unfolding while_to
+  while_to-both s t r = whiles-both (hi - 0) 0 s t (omega arith) r
 
-pub downTo-same : {S : Type 0} (f g : ℕ → S → S) (n : ℕ) → ((i : ℕ) (s : S) → i < n → f i s ≡ g i s) → (s : S) → downTo n f s ≡ downTo n g s
-unfolding downTo
-downTo-same f g zero turn s = refl
-downTo-same f g (suc n) turn s = rw (turn n s (omega arith)) (downTo-same f g n (λ i s h. turn i s (omega arith)) (g n s))
+pub down_to-same : {S : Type 0} (f g : ℕ → S → S) (n : ℕ) → ((i : ℕ) (s : S) → i < n → f i s ≡ g i s) → (s : S) → down_to n f s ≡ down_to n g s
+unfolding down_to
+down_to-same f g zero turn s = refl
+down_to-same f g (suc n) turn s = rw (turn n s (omega arith)) (down_to-same f g n (λ i s h. turn i s (omega arith)) (g n s))
 
-downTo-first : {S : Type 0} (f : ℕ → S → S) (n : ℕ) (s : S) → downTo (suc n) f s ≡ f 0 (downTo n (λ i. f (suc i)) s)
-unfolding downTo
-downTo-first f zero s = refl
-downTo-first f (suc n) s = downTo-first f n (f (suc n) s)
+down_to-first : {S : Type 0} (f : ℕ → S → S) (n : ℕ) (s : S) → down_to (suc n) f s ≡ f 0 (down_to n (λ i. f (suc i)) s)
+unfolding down_to
+down_to-first f zero s = refl
+down_to-first f (suc n) s = down_to-first f n (f (suc n) s)
 
-pub downTo-foldr : {A S : Type 0} (g : A → S → S) (d : A) (l : List A) (s : S) → downTo (length l) (λ i. g (get_or l i d)) s ≡ foldr g s l
-unfolding downTo
-downTo-foldr g d [] s = refl
-downTo-foldr g d (x ∷ l) s = downTo-first (λ i. g (get_or (x ∷ l) i d)) (length l) s ∙ ap (g x) (downTo-foldr g d l s)
+pub down_to-foldr : {A S : Type 0} (g : A → S → S) (d : A) (l : List A) (s : S) → down_to (length l) (λ i. g (get_or l i d)) s ≡ foldr g s l
+unfolding down_to
+down_to-foldr g d [] s = refl
+down_to-foldr g d (x ∷ l) s = down_to-first (λ i. g (get_or (x ∷ l) i d)) (length l) s ∙ ap (g x) (down_to-foldr g d l s)

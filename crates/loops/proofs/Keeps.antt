@@ -10,6 +10,6 @@ module _ {S : Type 0} (P : ℕ → S → Type 0) (f : ℕ → S → S) (hi : ℕ
   turns-keep zero i s e p = let h : i ≡ hi = omega arith in subst (λ n. P n s) h p
   turns-keep (suc k) i s e p = turns-keep k (i + 1) (f i s) (omega arith) (step i s (omega arith) p)
 
-  pub upTo-keeps : (lo : ℕ) (s : S) → lo ≤ hi → P lo s → P hi (up_to hi lo f s)
+  pub up_to-keeps : (lo : ℕ) (s : S) → lo ≤ hi → P lo s → P hi (up_to hi lo f s)
   unfolding up_to
-  upTo-keeps lo s h p = turns-keep (hi - lo) lo s (omega arith) p
+  up_to-keeps lo s h p = turns-keep (hi - lo) lo s (omega arith) p

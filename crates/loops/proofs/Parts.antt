@@ -6,7 +6,7 @@
 --     past-tail    what a is when that part has come back as y
 --     get-past, set_past    a read and a write past the front p of a list
 --     any-default           within a list the default is not asked for
---     set_both              two lists of one length that hold the same at a place hold the same there after a write to both
+--     set-both              two lists of one length that hold the same at a place hold the same there after a write to both
 -- Assumes nothing.
 use Prim.Native.Nat.{ℕ, zero, suc, ◌+◌, ◌-◌, ◌≤◌, ◌<◌}
 use mathlib.Core.List.{List, [], ◌∷◌, ◌++◌, append-nil}
@@ -52,11 +52,11 @@ module _ {A : Type 0} where
       let p : get_or l i d ∷ drop (suc i) l ≡ get_or l i e ∷ drop (suc i) l = sym (drop-cons l i d h) ∙ drop-cons l i e h in
       cc
 
-  pub set_both : (l m : List A) (i j : ℕ) (v d : A) → length l ≡ length m → get_or l j d ≡ get_or m j d → get_or (set l i v) j d ≡ get_or (set m i v) j d
-  set_both [] [] i j v d n e = e
-  set_both [] (y ∷ m) i j v d n e = absurd (omega (arith, n))
-  set_both (x ∷ l) [] i j v d n e = absurd (omega (arith, n))
-  set_both (x ∷ l) (y ∷ m) zero zero v d n e = refl
-  set_both (x ∷ l) (y ∷ m) zero (suc j) v d n e = e
-  set_both (x ∷ l) (y ∷ m) (suc i) zero v d n e = e
-  set_both (x ∷ l) (y ∷ m) (suc i) (suc j) v d n e = set_both l m i j v d (omega (arith, n)) e
+  pub set-both : (l m : List A) (i j : ℕ) (v d : A) → length l ≡ length m → get_or l j d ≡ get_or m j d → get_or (set l i v) j d ≡ get_or (set m i v) j d
+  set-both [] [] i j v d n e = e
+  set-both [] (y ∷ m) i j v d n e = absurd (omega (arith, n))
+  set-both (x ∷ l) [] i j v d n e = absurd (omega (arith, n))
+  set-both (x ∷ l) (y ∷ m) zero zero v d n e = refl
+  set-both (x ∷ l) (y ∷ m) zero (suc j) v d n e = e
+  set-both (x ∷ l) (y ∷ m) (suc i) zero v d n e = e
+  set-both (x ∷ l) (y ∷ m) (suc i) (suc j) v d n e = set-both l m i j v d (omega (arith, n)) e

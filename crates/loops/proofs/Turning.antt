@@ -1,6 +1,6 @@
 -- The loops of specs/Turns.antt, turn by turn. Each has a law for a turn (-next), for an early way out (-stop) and for the end (-done).
--- R is what the whole loop gives, so an invariant says "what is left gives R", which holds at the start by `refl`. `upTo-part` says a loop
--- on a part as a loop on the whole, `upTo-split` a loop as two, one after the other, `tryTo-none`, `tryTo-all` and `tryTo-more` the turns
+-- R is what the whole loop gives, so an invariant says "what is left gives R", which holds at the start by `refl`. `up_to-part` says a loop
+-- on a part as a loop on the whole, `up_to-split` a loop as two, one after the other, `try_to-none`, `try_to-all` and `try_to-more` the turns
 -- from 0 on, and `fold-append` that two lists are gone over one after the other. Assumes nothing.
 use Prim.Native.Nat.{ℕ, zero, suc, ◌+◌, ◌-◌, ◌≤◌, ◌<◌}
 use mathlib.Core.Bool.{Bool, true, false}
@@ -11,7 +11,7 @@ use native.Mathlib.Numerals.{add-one}
 use native.Mathlib.Omega.{arith}
 use lib.ListN.{length, get_or, drop, drop_of_length-le}
 use lib.Seq.{drop-cons}
-use Rattle.loops.specs.Turns.{Try, after, turns, up_to, downTo, tries, tryTo, whiles, whileTo, fold, every, go, stop}
+use Rattle.loops.specs.Turns.{Try, after, turns, up_to, down_to, tries, try_to, whiles, while_to, fold, every, go, stop}
 
 -- how many turns are left: one more than after this one
 left-next : (hi i : ℕ) → i < hi → hi - i ≡ suc (hi - (i + 1))
@@ -29,24 +29,24 @@ module _ {S : Type 0} (f : ℕ → S → S) where
   unfolding turns
   turns-done n i s e = rw e
 
-  pub upTo-next : (hi i : ℕ) (s s' R : S) → i < hi → s' ≡ f i s → up_to hi i f s ≡ R → up_to hi (i + 1) f s' ≡ R
+  pub up_to-next : (hi i : ℕ) (s s' R : S) → i < hi → s' ≡ f i s → up_to hi i f s ≡ R → up_to hi (i + 1) f s' ≡ R
   unfolding up_to
-  upTo-next hi i s s' R h e r = rw e (sym (turns_next (hi - (i + 1)) (hi - i) i s (left-next hi i h)) ∙ r)
+  up_to-next hi i s s' R h e r = rw e (sym (turns_next (hi - (i + 1)) (hi - i) i s (left-next hi i h)) ∙ r)
 
-  pub upTo-done : (hi i : ℕ) (s R : S) → hi ≤ i → up_to hi i f s ≡ R → s ≡ R
+  pub up_to-done : (hi i : ℕ) (s R : S) → hi ≤ i → up_to hi i f s ≡ R → s ≡ R
   unfolding up_to
-  upTo-done hi i s R h r = sym (turns-done (hi - i) i s (left-done hi i h)) ∙ r
+  up_to-done hi i s R h r = sym (turns-done (hi - i) i s (left-done hi i h)) ∙ r
 
-  down-next : (k i : ℕ) (s : S) → i ≡ suc k → downTo i f s ≡ downTo k f (f k s)
-  unfolding downTo
+  down-next : (k i : ℕ) (s : S) → i ≡ suc k → down_to i f s ≡ down_to k f (f k s)
+  unfolding down_to
   down-next k i s e = rw e
 
-  pub downTo-next : (i : ℕ) (s s' R : S) → 0 < i → s' ≡ f (i - 1) s → downTo i f s ≡ R → downTo (i - 1) f s' ≡ R
-  downTo-next i s s' R h e r = rw e (sym (down-next (i - 1) i s (omega arith)) ∙ r)
+  pub down_to-next : (i : ℕ) (s s' R : S) → 0 < i → s' ≡ f (i - 1) s → down_to i f s ≡ R → down_to (i - 1) f s' ≡ R
+  down_to-next i s s' R h e r = rw e (sym (down-next (i - 1) i s (omega arith)) ∙ r)
 
-  pub downTo-done : (i : ℕ) (s R : S) → i ≤ 0 → downTo i f s ≡ R → s ≡ R
-  unfolding downTo
-  downTo-done i s R h r = let e : i ≡ 0 = omega arith in rw e at r
+  pub down_to-done : (i : ℕ) (s R : S) → i ≤ 0 → down_to i f s ≡ R → s ≡ R
+  unfolding down_to
+  down_to-done i s R h r = let e : i ≡ 0 = omega arith in rw e at r
 
 -- the turns up to mid, and then those from there on
 module _ {S : Type 0} (f : ℕ → S → S) where
@@ -55,9 +55,9 @@ module _ {S : Type 0} (f : ℕ → S → S) where
   turns-split zero k i s = rw (zero-add, add-zero)
   turns-split (suc j) k i s = let e : (i + 1) + j ≡ i + suc j = omega arith in rw (suc-add, ← e) (turns-split j k (i + 1) (f i s))
 
-  pub upTo-split : (hi mid lo : ℕ) (s : S) → lo ≤ mid → mid ≤ hi → up_to hi lo f s ≡ up_to hi mid f (up_to mid lo f s)
+  pub up_to-split : (hi mid lo : ℕ) (s : S) → lo ≤ mid → mid ≤ hi → up_to hi lo f s ≡ up_to hi mid f (up_to mid lo f s)
   unfolding up_to
-  upTo-split hi mid lo s h k =
+  up_to-split hi mid lo s h k =
       let e : hi - lo ≡ (mid - lo) + (hi - mid) = omega arith in
       let m : lo + (mid - lo) ≡ mid = omega arith in
       rw e (rw m at (turns-split (mid - lo) (hi - mid) lo s))
@@ -69,19 +69,19 @@ module _ {S T : Type 0} (φ : T → S) (j : ℕ) (f : ℕ → S → S) (g : ℕ 
   turns-part zero i t = refl
   turns-part (suc k) i t = rw (turn i t, add_assoc j i 1) (turns-part k (i + 1) (g i t))
 
-  pub upTo-part : (hi i : ℕ) (t : T) → up_to (j + hi) (j + i) f (φ t) ≡ φ (up_to hi i g t)
+  pub up_to-part : (hi i : ℕ) (t : T) → up_to (j + hi) (j + i) f (φ t) ≡ φ (up_to hi i g t)
   unfolding up_to
-  upTo-part hi i t = let e : (j + hi) - (j + i) ≡ hi - i = omega arith in rw e (turns-part (hi - i) i t)
+  up_to-part hi i t = let e : (j + hi) - (j + i) ≡ hi - i = omega arith in rw e (turns-part (hi - i) i t)
 
 -- the turns from 0 on: none, all of them, and one more
 module _ {S : Type 0} (f : ℕ → S → Try S) where
-  pub tryTo-none : (s : S) → tryTo 0 0 f s ≡ go s
-  unfolding tryTo tries
-  tryTo-none s = refl
+  pub try_to-none : (s : S) → try_to 0 0 f s ≡ go s
+  unfolding try_to tries
+  try_to-none s = refl
 
-  pub tryTo-all : (k : ℕ) (s : S) → tryTo k 0 f s ≡ tries k 0 f s
-  unfolding tryTo
-  tryTo-all k s = rw sub-zero
+  pub try_to-all : (k : ℕ) (s : S) → try_to k 0 f s ≡ tries k 0 f s
+  unfolding try_to
+  try_to-all k s = rw sub-zero
 
   tries-more : (k i : ℕ) (s u v : S) → tries k i f s ≡ go u → f (i + k) u ≡ go v → tries (suc k) i f s ≡ go v
   unfolding tries
@@ -92,10 +92,10 @@ module _ {S : Type 0} (f : ℕ → S → Try S) where
       by (go w) e rest = rest w e
       by stop e rest = cc
 
-  pub tryTo-more : (k : ℕ) (s u v : S) → tryTo k 0 f s ≡ go u → f k u ≡ go v → tryTo (k + 1) 0 f s ≡ go v
-  tryTo-more k s u v e h =
+  pub try_to-more : (k : ℕ) (s u v : S) → try_to k 0 f s ≡ go u → f k u ≡ go v → try_to (k + 1) 0 f s ≡ go v
+  try_to-more k s u v e h =
       let j : k + 1 ≡ suc k = omega arith in
-      tryTo-all (k + 1) s ∙ rw j (tries-more k 0 s u v (sym (tryTo-all k s) ∙ e) (rw zero-add h))
+      try_to-all (k + 1) s ∙ rw j (tries-more k 0 s u v (sym (try_to-all k s) ∙ e) (rw zero-add h))
 
 module _ {S : Type 0} (p : ℕ → S → Bool) (f : ℕ → S → S) where
   whiles-next : (k n i : ℕ) (s : S) → n ≡ suc k → p i s ≡ true → whiles n i p f s ≡ whiles k (i + 1) p f (f i s)
@@ -110,17 +110,17 @@ module _ {S : Type 0} (p : ℕ → S → Bool) (f : ℕ → S → S) where
   unfolding whiles
   whiles-done n i s e = rw e
 
-  pub whileTo-next : (hi i : ℕ) (s s' R : S) → i < hi → p i s ≡ true → s' ≡ f i s → whileTo hi i p f s ≡ R → whileTo hi (i + 1) p f s' ≡ R
-  unfolding whileTo
-  whileTo-next hi i s s' R h t e r = rw e (sym (whiles-next (hi - (i + 1)) (hi - i) i s (left-next hi i h) t) ∙ r)
+  pub while_to-next : (hi i : ℕ) (s s' R : S) → i < hi → p i s ≡ true → s' ≡ f i s → while_to hi i p f s ≡ R → while_to hi (i + 1) p f s' ≡ R
+  unfolding while_to
+  while_to-next hi i s s' R h t e r = rw e (sym (whiles-next (hi - (i + 1)) (hi - i) i s (left-next hi i h) t) ∙ r)
 
-  pub whileTo-stop : (hi i : ℕ) (s R : S) → i < hi → p i s ≡ false → whileTo hi i p f s ≡ R → s ≡ R
-  unfolding whileTo
-  whileTo-stop hi i s R h t r = sym (whiles-stop (hi - (i + 1)) (hi - i) i s (left-next hi i h) t) ∙ r
+  pub while_to-stop : (hi i : ℕ) (s R : S) → i < hi → p i s ≡ false → while_to hi i p f s ≡ R → s ≡ R
+  unfolding while_to
+  while_to-stop hi i s R h t r = sym (whiles-stop (hi - (i + 1)) (hi - i) i s (left-next hi i h) t) ∙ r
 
-  pub whileTo-done : (hi i : ℕ) (s R : S) → hi ≤ i → whileTo hi i p f s ≡ R → s ≡ R
-  unfolding whileTo
-  whileTo-done hi i s R h r = sym (whiles-done (hi - i) i s (left-done hi i h)) ∙ r
+  pub while_to-done : (hi i : ℕ) (s R : S) → hi ≤ i → while_to hi i p f s ≡ R → s ≡ R
+  unfolding while_to
+  while_to-done hi i s R h r = sym (whiles-done (hi - i) i s (left-done hi i h)) ∙ r
 
 -- the rest of a list from a place on: the element there, and the rest after it
 rest-next : {A : Type 0} (d : A) (l : List A) (i : ℕ) → i < length l → drop i l ≡ get_or l i d ∷ drop (i + 1) l

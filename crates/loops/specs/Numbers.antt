@@ -5,29 +5,29 @@ use Rattle.std.specs.Prelude.{ℕ}
 abbrev pub fitted : ℕ
 fitted = 0
 
-abbrev pub tooLong : ℕ
-tooLong = 1
+abbrev pub too_long : ℕ
+too_long = 1
 
-abbrev pub badForm : ℕ
-badForm = 2
+abbrev pub bad_form : ℕ
+bad_form = 2
 
-abbrev pub tooMany : ℕ
-tooMany = 3
+abbrev pub too_many : ℕ
+too_many = 3
 
-abbrev pub outOfBounds : ℕ
-outOfBounds = 4
+abbrev pub out_of_bounds : ℕ
+out_of_bounds = 4
 
-abbrev pub noSuchItem : ℕ
-noSuchItem = 5
+abbrev pub no_such_item : ℕ
+no_such_item = 5
 
-abbrev pub tooManyRows : ℕ
-tooManyRows = 6
+abbrev pub too_many_rows : ℕ
+too_many_rows = 6
 
-abbrev pub notConverged : ℕ
-notConverged = 7
+abbrev pub not_converged : ℕ
+not_converged = 7
 
-abbrev pub tooShort : ℕ
-tooShort = 9
+abbrev pub too_short : ℕ
+too_short = 9
 
 -- a number of the table that returns only itself, no answer, or the values that are handed out
 pub data Meaning (A : Type 0) : Type 0 where

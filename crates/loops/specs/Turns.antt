@@ -1,8 +1,8 @@
 -- Loops as definitions: a recursion on the turns that are left. A step takes the index first and the state last.
 --     up_to hi lo f s        for i in lo..hi { s = f(i, s) }
---     downTo n f s          for i in (0..n).rev() { s = f(i, s) }
---     tryTo hi lo f s       the same as up_to, where a turn may stop the whole
---     whileTo hi lo p f s   the same as up_to, left with the state as it is where a turn's test p(i, s) fails
+--     down_to n f s          for i in (0..n).rev() { s = f(i, s) }
+--     try_to hi lo f s       the same as up_to, where a turn may stop the whole
+--     while_to hi lo p f s   the same as up_to, left with the state as it is where a turn's test p(i, s) fails
 --     fold f s l            for x in l { s = f(s, x) }
 --     every p l             whether p holds of each element
 -- Their laws are proofs/Turning.antt's.
@@ -38,23 +38,23 @@ module _ {S : Type 0} where
   unfoldable pub up_to : ℕ → ℕ → (ℕ → S → S) → S → S
   up_to hi lo f s = turns (hi - lo) lo f s
 
-  unfoldable pub downTo : ℕ → (ℕ → S → S) → S → S
-  downTo zero f s = s
-  downTo (suc i) f s = downTo i f (f i s)
+  unfoldable pub down_to : ℕ → (ℕ → S → S) → S → S
+  down_to zero f s = s
+  down_to (suc i) f s = down_to i f (f i s)
 
   unfoldable pub tries : ℕ → ℕ → (ℕ → S → Try S) → S → Try S
   tries zero i f s = go s
   tries (suc k) i f s = after (f i s) (tries k (i + 1) f)
 
-  unfoldable pub tryTo : ℕ → ℕ → (ℕ → S → Try S) → S → Try S
-  tryTo hi lo f s = tries (hi - lo) lo f s
+  unfoldable pub try_to : ℕ → ℕ → (ℕ → S → Try S) → S → Try S
+  try_to hi lo f s = tries (hi - lo) lo f s
 
   unfoldable pub whiles : ℕ → ℕ → (ℕ → S → Bool) → (ℕ → S → S) → S → S
   whiles zero i p f s = s
   whiles (suc k) i p f s = let r = whiles k (i + 1) p f (f i s) in cond (p i s) r s
 
-  unfoldable pub whileTo : ℕ → ℕ → (ℕ → S → Bool) → (ℕ → S → S) → S → S
-  whileTo hi lo p f s = whiles (hi - lo) lo p f s
+  unfoldable pub while_to : ℕ → ℕ → (ℕ → S → Bool) → (ℕ → S → S) → S → S
+  while_to hi lo p f s = whiles (hi - lo) lo p f s
 
 module _ {A S : Type 0} where
   unfoldable pub fold : (S → A → S) → S → List A → S

@@ -1,5 +1,8 @@
 // How loops are said and proved: the definitions of specs/ and the laws of proofs/, which every crate's contracts and proofs cite; and two
 // questions about whole numbers that many rooms ask.
+
+#![tactic(auto)]
+
 ghost use Rattle.std.specs.Prelude.{◌≡◌, ◌*◌, min, leb};
 
 // Whether `len` places hold a table of `rows` rows and `cols` columns, whatever the three numbers are: nothing wraps.

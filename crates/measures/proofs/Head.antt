@@ -8,7 +8,7 @@ use native.Mathlib.Omega.{arith}
 use lib.Ieee.{Float}
 use lib.ListN.{length, get_or, take, drop, set, length-take, length-map, drop_of_length-le}
 use lib.Seq.{get_or-take, take_all}
-use Rattle.floats.specs.Lists.{copiedOf}
+use Rattle.floats.specs.Lists.{copied_of}
 use Rattle.loops.proofs.Writes.{into_next}
 
 module _ {A B : Type 0} (g : A → B) where
@@ -23,7 +23,7 @@ module _ {A : Type 0} (g : A → Float) (l : List A) (t : List Float) where
   head-next n d s i v h k e q =
       into_next g d (take n l) t s i v h k (e ∙ ap g (sym (get_or-take n l i d (omega (arith, length-take n l))))) q
 
-  pub head_done : (s : List Float) (i : ℕ) → i ≡ min (length l) (length t) → s ≡ map g (take i l) ++ drop i t → s ≡ copiedOf (map g l) t
+  pub head_done : (s : List Float) (i : ℕ) → i ≡ min (length l) (length t) → s ≡ map g (take i l) ++ drop i t → s ≡ copied_of (map g l) t
   head_done s i e q = q ∙ rw (taken g i l) (go (dec_lt (length t) (length l)))
     where
       go : Dec (length t < length l) → take i (map g l) ++ drop i t ≡ take (length t) (map g l) ++ drop (length (map g l)) t

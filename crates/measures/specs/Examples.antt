@@ -5,20 +5,20 @@ use Rattle.std.specs.Float.{binary64}
 use Rattle.std.specs.Float.Ieee.{of_bits, add, sub, mul, div, neg}
 use Rattle.floats.specs.Ops.{one, one⁻, two}
 use Rattle.loops.specs.Turns.{turns, up_to}
-use Rattle.plate.specs.Scale.{scale_at, allScaledOf, selfAt}
-use Rattle.rows.specs.Kinds.{rowsOfEquation, axisDistanceOf}
+use Rattle.plate.specs.Scale.{scale_at, all_scaled_of, self_at}
+use Rattle.rows.specs.Kinds.{rows_of_equation, axis_distance_of}
 use Rattle.rows.specs.Located.{at_of}
-use Rattle.sketch.specs.Blank.{blankPoint, sample}
+use Rattle.sketch.specs.Blank.{blank_point, sample}
 use Rattle.sketch.specs.declared.Build.{Build}
 use Rattle.sketch.specs.declared.Measure.{Measure}
 use Rattle.sketch.specs.declared.Measured.{Measured}
-use Rattle.measures.specs.Gauges.{gaugeOf, gaugedOf, measuredIn}
+use Rattle.measures.specs.Gauges.{gauge_of, gauged_of, measured_in}
 
 abbrev along : ℕ → Float → Measured
 along axis side = record { measure = Measure.AxisDistance (record { 0 = 0 }) (record { 0 = 1 }) axis side }
 
 abbrev build : Build
-build = sample (record { x = one; y = one }) two (blankPoint ∷ blankPoint ∷ []) [] [] (along 0 one ∷ along 1 one⁻ ∷ [])
+build = sample (record { x = one; y = one }) two (blank_point ∷ blank_point ∷ []) [] [] (along 0 one ∷ along 1 one⁻ ∷ [])
 
 abbrev 3·0 : Float
 3·0 = of_bits binary64 0x4008_0000_0000_0000
@@ -37,6 +37,6 @@ abbrev 2·0⁻ : Float
 2·0⁻ = of_bits binary64 0xc000_0000_0000_0000
 
 -- the third place of the output is no measure's
-pub along-axes : (z : Float) → measuredIn build (one ∷ 5·0 ∷ 4·0 ∷ 7·0 ∷ []) (z ∷ z ∷ z ∷ []) ≡ 3·0 ∷ 2·0⁻ ∷ z ∷ []
-unfolding turns up_to rowsOfEquation axisDistanceOf at_of gaugeOf gaugedOf measuredIn scale_at allScaledOf selfAt of_bits add sub mul div neg
+pub along-axes : (z : Float) → measured_in build (one ∷ 5·0 ∷ 4·0 ∷ 7·0 ∷ []) (z ∷ z ∷ z ∷ []) ≡ 3·0 ∷ 2·0⁻ ∷ z ∷ []
+unfolding turns up_to rows_of_equation axis_distance_of at_of gauge_of gauged_of measured_in scale_at all_scaled_of self_at of_bits add sub mul div neg
 along-axes z = refl

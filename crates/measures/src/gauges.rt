@@ -1,14 +1,14 @@
 // Each measure is its dimension's equation with the value 0, back in the build's size.
 ghost use Rattle.std.specs.Prelude.{map, ◌≡◌, take};
-ghost use Rattle.floats.specs.Lists.{copiedOf};
-ghost use Rattle.measures.specs.Gauges.{equationOf, gaugeOf, measuredIn};
+ghost use Rattle.floats.specs.Lists.{copied_of};
+ghost use Rattle.measures.specs.Gauges.{equation_of, gauge_of, measured_in};
 
 use loops::smaller;
 use plate::{in_order, scaled};
 use sketch::{Build, Equation, Line, Measure, Measured};
 
 fn equation(m: Measure) -> Equation
-    ensures { result ≡ equationOf m }
+    ensures { result ≡ equation_of m }
 {
     match m {
         Measure::Distance(a, b) => Equation::Distance(a, b, 0.0),
@@ -20,7 +20,7 @@ fn equation(m: Measure) -> Equation
 }
 
 fn gauge(m: Measured, lines: [Line; 40], places: &[u8], x: &[f64], size: f64) -> f64
-    ensures { result ≡ gaugeOf lines places.now x.now size m }
+    ensures { result ≡ gauge_of lines places.now x.now size m }
 {
     let measure = m.measure;
     let e = equation(measure);
@@ -42,7 +42,7 @@ fn gauge_all(
     size: f64,
     out: &mut [f64],
 )
-    ensures { out.new ≡ copiedOf (map (gaugeOf lines places.now x.now size) (take n measures)) out.old }
+    ensures { out.new ≡ copied_of (map (gauge_of lines places.now x.now size) (take n measures)) out.old }
 {
     let k = smaller(smaller(n, 20), out.len());
     for i in 0..k {
@@ -53,7 +53,7 @@ fn gauge_all(
 
 // The measures of a build at the points x, y, x, y, .., one after another at the head of out.
 pub fn measures(b: Build, points: &[f64], out: &mut [f64])
-    ensures { out.new ≡ measuredIn b points.now out.old }
+    ensures { out.new ≡ measured_in b points.now out.old }
 {
     let n = smaller(b.point_count, 40);
     let centre = b.centre;

@@ -7,8 +7,8 @@ use mathlib.Core.Path.{◌≡◌, refl, sym, ap, ◌∙◌}
 use native.Mathlib.Omega.{arith}
 use lib.ListN.{length, set, length-append}
 use lib.Seq.{set-append_seam}
-use Rattle.members.specs.Lists.{headed, listed_of, Lists, pushedOf}
-use Rattle.members.specs.Movable.{coordinatesOf, ListsCoordinates, pushedTwo}
+use Rattle.members.specs.Lists.{headed, listed_of, Lists, pushed_of}
+use Rattle.members.specs.Movable.{coordinates_of, ListsCoordinates, pushed_two}
 use Rattle.members.specs.declared.Coordinates.{Coordinates}
 use Rattle.members.specs.declared.Listed.{Listed}
 
@@ -54,9 +54,9 @@ Pushed r rest whole = Heads 40 r.items r.count rest whole
 pub pushed_start : (r : Listed) (whole : List ℕ) → r ≡ listed_of [] → Pushed r whole whole
 pushed_start r whole e = rw e (heads-start 40 whole)
 
-pub pushed-next : (wanted : Bool) (v : ℕ) (r r' : Listed) (rest whole : List ℕ) → r.count < 40 → r' ≡ pushedOf wanted v r
+pub pushed-next : (wanted : Bool) (v : ℕ) (r r' : Listed) (rest whole : List ℕ) → r.count < 40 → r' ≡ pushed_of wanted v r
     → Pushed r (cond wanted (v ∷ rest) rest) whole → Pushed r' rest whole
-unfolding pushedOf
+unfolding pushed_of
 pushed-next true v r r' rest whole h e t = rw e (heads-push 40 r.items r.count v rest whole h t)
 pushed-next false v r r' rest whole h e t = rw e t
 
@@ -69,8 +69,8 @@ pushed-done r whole h t =
     let count = heads-count 40 r.items r.count whole t in
     record { is = listed-is r (headed 40 whole) (length whole) items count; few = rw count at h }
 
-pub pushed-count : (wanted : Bool) (v i : ℕ) (r r' : Listed) → r.count ≤ i → r' ≡ pushedOf wanted v r → r'.count ≤ i + 1
-unfolding pushedOf
+pub pushed-count : (wanted : Bool) (v i : ℕ) (r r' : Listed) → r.count ≤ i → r' ≡ pushed_of wanted v r → r'.count ≤ i + 1
+unfolding pushed_of
 pushed-count true v i r r' h e = rw e (omega arith)
 pushed-count false v i r r' h e = rw e (omega arith)
 
@@ -78,12 +78,12 @@ pushed-count false v i r r' h e = rw e (omega arith)
 abbrev pub PushedTwo : Coordinates → List ℕ → List ℕ → Type 0
 PushedTwo f rest whole = Heads 80 f.items f.count rest whole
 
-pub two-start : (f : Coordinates) (whole : List ℕ) → f ≡ coordinatesOf [] → PushedTwo f whole whole
+pub two-start : (f : Coordinates) (whole : List ℕ) → f ≡ coordinates_of [] → PushedTwo f whole whole
 two-start f whole e = rw e (heads-start 80 whole)
 
-pub two-next : (wanted : Bool) (k : ℕ) (f f' : Coordinates) (rest whole : List ℕ) → f.count < 79 → f' ≡ pushedTwo wanted k f
+pub two-next : (wanted : Bool) (k : ℕ) (f f' : Coordinates) (rest whole : List ℕ) → f.count < 79 → f' ≡ pushed_two wanted k f
     → PushedTwo f (cond wanted (2 * k ∷ (2 * k + 1) ∷ rest) rest) whole → PushedTwo f' rest whole
-unfolding pushedTwo
+unfolding pushed_two
 two-next true k f f' rest whole h e t =
     let one = heads-push 80 f.items f.count (2 * k) ((2 * k + 1) ∷ rest) whole (omega arith) t in
     let two = heads-push 80 (set f.items f.count (2 * k)) (f.count + 1) (2 * k + 1) rest whole (omega arith) one in
@@ -100,7 +100,7 @@ two-done f whole h t =
     let count = heads-count 80 f.items f.count whole t in
     record { is = coordinates-is f (headed 80 whole) (length whole) items count; few = rw count at h }
 
-pub two-count : (wanted : Bool) (k : ℕ) (f f' : Coordinates) → f.count ≤ 2 * k → f' ≡ pushedTwo wanted k f → f'.count ≤ 2 * (k + 1)
-unfolding pushedTwo
+pub two-count : (wanted : Bool) (k : ℕ) (f f' : Coordinates) → f.count ≤ 2 * k → f' ≡ pushed_two wanted k f → f'.count ≤ 2 * (k + 1)
+unfolding pushed_two
 two-count true k f f' h e = rw e (omega arith)
 two-count false k f f' h e = rw e (omega arith)

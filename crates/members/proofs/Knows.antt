@@ -11,7 +11,7 @@ use Rattle.loops.proofs.Parts.{any-default}
 use Rattle.plane.specs.declared.Vec2.{Vec2}
 use Rattle.sketch.specs.declared.Point.{Point}
 use Rattle.members.specs.Movable.{nowhere, known_of}
-use Rattle.members.specs.Scale.{unscaleTo, unscaleOne}
+use Rattle.members.specs.Scale.{unscale_to, unscale_one}
 
 module _ (points : List Point) (p place : ℕ) (d : Point) (e : length points ≡ 40) (m : place ≡ min p 39) where
   abbrev q : Point
@@ -31,17 +31,17 @@ module _ (points : List Point) (p place : ℕ) (d : Point) (e : length points �
           (rw (le-ltb p 40 l) at k) ∙ sym (get_or-eq_default points nowhere {n = p} (omega arith))
 
   module _ (centre : Vec2) (size : Float) (x : List Float) (k : ℕ) (out : List Float) where
-    one-put : p < 40 → unscaleOne q centre size p x k out ≡ unscaleTo points centre size p x k out
-    unfolding unscaleOne unscaleTo
+    one-put : p < 40 → unscale_one q centre size p x k out ≡ unscale_to points centre size p x k out
+    unfolding unscale_one unscale_to
     one-put l = rw (e, lt-ltb p 40 l, there l)
 
-    one-passed : 40 ≤ p → unscaleOne q centre size p x k out ≡ unscaleTo points centre size p x k out
-    unfolding unscaleOne unscaleTo
+    one-passed : 40 ≤ p → unscale_one q centre size p x k out ≡ unscale_to points centre size p x k out
+    unfolding unscale_one unscale_to
     one-passed l = rw (e, le-ltb p 40 l)
 
-    pub one-is : unscaleOne q centre size p x k out ≡ unscaleTo points centre size p x k out
+    pub one-is : unscale_one q centre size p x k out ≡ unscale_to points centre size p x k out
     one-is = go (dec_lt p 40)
       where
-        go : Dec (p < 40) → unscaleOne q centre size p x k out ≡ unscaleTo points centre size p x k out
+        go : Dec (p < 40) → unscale_one q centre size p x k out ≡ unscale_to points centre size p x k out
         go (yes l) = one-put l
         go (no n) = one-passed (omega arith)

@@ -10,15 +10,15 @@ use lib.Ieee.{Float}
 use Rattle.plane.specs.declared.Vec2.{Vec2}
 use Rattle.sketch.specs.declared.Point.{Point}
 use Rattle.members.specs.declared.Listed.{Listed}
-use Rattle.members.specs.Lists.{numbersOf, Lists}
+use Rattle.members.specs.Lists.{numbers_of, Lists}
 use Rattle.members.specs.declared.Coordinates.{Coordinates}
-use Rattle.members.specs.Movable.{indicesOf, ListsCoordinates}
+use Rattle.members.specs.Movable.{indices_of, ListsCoordinates}
 use Rattle.members.specs.Scale.{start_of, start_in}
 
-pub numbers-are : (r : Listed) (ps : List ℕ) → Lists r ps → numbersOf r ≡ ps
+pub numbers-are : (r : Listed) (ps : List ℕ) → Lists r ps → numbers_of r ≡ ps
 numbers-are r ps t = rw t.is (take_at ps _ (length ps) refl)
 
-pub indices-are : (f : Coordinates) (cs : List ℕ) → ListsCoordinates f cs → indicesOf f ≡ cs
+pub indices-are : (f : Coordinates) (cs : List ℕ) → ListsCoordinates f cs → indices_of f ≡ cs
 indices-are f cs t = rw t.is (take_at cs _ (length cs) refl)
 
 -- two numbers for each point

@@ -12,8 +12,8 @@ use Rattle.loops.proofs.Parts.{set_past}
 use Rattle.plane.specs.declared.Vec2.{Vec2}
 use Rattle.sketch.specs.declared.Point.{Point}
 use Rattle.groups.proofs.Counted.{taken}
-use Rattle.members.specs.Movable.{nowhere, pointsAt}
-use Rattle.members.specs.Scale.{scaledOf, start_of, start_in}
+use Rattle.members.specs.Movable.{nowhere, points_at}
+use Rattle.members.specs.Scale.{scaled_of, start_of, start_in}
 use Rattle.members.proofs.Readings.{start-length, starts}
 
 -- two stores past what is written
@@ -31,12 +31,12 @@ module _ (centre : Vec2) (size : Float) where
   start-append [] qs = refl
   start-append (p ∷ ps) qs = rw (start-append ps qs)
 
-  start-one : (p : Point) → start_of centre size (p ∷ []) ≡ (scaledOf centre size p).x ∷ (scaledOf centre size p).y ∷ []
+  start-one : (p : Point) → start_of centre size (p ∷ []) ≡ (scaled_of centre size p).x ∷ (scaled_of centre size p).y ∷ []
   unfolding start_of
   start-one p = refl
 
   pub start-turn : (d : Point) (pts : List Point) (p : Point) (k : ℕ) (x x₀ : List Float) (s : Vec2) → k < length pts → 2 * k + 1 < length x₀ → p ≡ get_or pts k d
-      → s ≡ scaledOf centre size p → x ≡ start_of centre size (take k pts) ++ drop (2 * k) x₀
+      → s ≡ scaled_of centre size p → x ≡ start_of centre size (take k pts) ++ drop (2 * k) x₀
       → set (set x (2 * k) s.x) (2 * k + 1) s.y ≡ start_of centre size (take (k + 1) pts) ++ drop (2 * (k + 1)) x₀
   start-turn d pts p k x x₀ s h n q e t =
       let written : start_of centre size (take (k + 1) pts) ≡ start_of centre size (take k pts) ++ s.x ∷ s.y ∷ [] =
@@ -54,7 +54,7 @@ module _ (points : List Point) (items : List ℕ) (n : ℕ) (h : n ≤ length it
   at p = get_or points p nowhere
 
   abbrev pts : List Point
-  pts = pointsAt points (take n items)
+  pts = points_at points (take n items)
 
   pub points-length : length pts ≡ n
   points-length = length-map (take n items) at ∙ length-take-le n items h
@@ -64,14 +64,14 @@ module _ (points : List Point) (items : List ℕ) (n : ℕ) (h : n ≤ length it
 
 -- the test before it, of as many items as are listed
 module _ (points : List Point) (centre : Vec2) (size : Float) (items : List ℕ) (count n : ℕ) (e : length items ≡ 40) (m : n ≡ min count 40) (x : List Float) where
-  counted : length (pointsAt points (take n items)) ≡ n
+  counted : length (points_at points (take n items)) ≡ n
   counted = points-length points items n (omega arith)
 
-  pub started : (x' : List Float) → 2 * n ≤ length x → x' ≡ start_of centre size (pointsAt points (take n items)) ++ drop (2 * n) x
-      → x' ≡ start_in centre size (pointsAt points (take count items)) x
+  pub started : (x' : List Float) → 2 * n ≤ length x → x' ≡ start_of centre size (points_at points (take n items)) ++ drop (2 * n) x
+      → x' ≡ start_in centre size (points_at points (take count items)) x
   started x' h q =
-      rw (← taken items count n 40 e m) (q ∙ sym (rw counted at (starts centre size (pointsAt points (take n items)) x (rw counted h))))
+      rw (← taken items count n 40 e m) (q ∙ sym (rw counted at (starts centre size (points_at points (take n items)) x (rw counted h))))
 
-  pub too_short : length x < 2 * n → x ≡ start_in centre size (pointsAt points (take count items)) x
+  pub too-short : length x < 2 * n → x ≡ start_in centre size (points_at points (take count items)) x
   unfolding start_in
-  too_short h = rw (← taken items count n 40 e m, counted, lt-leb (2 * n) (length x) h)
+  too-short h = rw (← taken items count n 40 e m, counted, lt-leb (2 * n) (length x) h)

@@ -11,8 +11,8 @@ abbrev pub listed_of : List ℕ → Listed
 listed_of l = record { items = headed 40 l; count = length l }
 
 -- the numbers that are listed: as many as the count says, and no more than there are places
-abbrev pub numbersOf : Listed → List ℕ
-numbersOf l = take l.count l.items
+abbrev pub numbers_of : Listed → List ℕ
+numbers_of l = take l.count l.items
 
 -- what a call that lists numbers promises: r lists ps, and there is room for them
 pub record Lists (r : Listed) (ps : List ℕ) : Type 0 where
@@ -20,10 +20,10 @@ pub record Lists (r : Listed) (ps : List ℕ) : Type 0 where
   pub few : length ps ≤ 40
 
 -- one number more, if it is wanted
-unfoldable pub pushedOf : Bool → ℕ → Listed → Listed
-pushedOf wanted v l = cond wanted (record { items = set l.items l.count v; count = l.count + 1 }) l
+unfoldable pub pushed_of : Bool → ℕ → Listed → Listed
+pushed_of wanted v l = cond wanted (record { items = set l.items l.count v; count = l.count + 1 }) l
 
 -- equations.rs, `conflicts`: `g.constraints.iter().copied().filter(|&c| c != k)`
-unfoldable pub withoutOf : ℕ → List ℕ → List ℕ
-withoutOf k [] = []
-withoutOf k (c ∷ l) = cond (eqb c k) (withoutOf k l) (c ∷ withoutOf k l)
+unfoldable pub without_of : ℕ → List ℕ → List ℕ
+without_of k [] = []
+without_of k (c ∷ l) = cond (eqb c k) (without_of k l) (c ∷ without_of k l)

@@ -8,17 +8,17 @@ unfoldable pub number_at : List ℕ → ℕ → List ℕ → List ℕ
 number_at cs k t = set t (get_or cs k 0) k
 
 -- `for (k, &c) in free.iter().enumerate()`
-unfoldable pub numberedOf : List ℕ → List ℕ → List ℕ
-numberedOf cs t = up_to (length cs) 0 (number_at cs) t
+unfoldable pub numbered_of : List ℕ → List ℕ → List ℕ
+numbered_of cs t = up_to (length cs) 0 (number_at cs) t
 
 -- a table of n places that holds d where nothing is numbered
 abbrev pub table_of : ℕ → ℕ → List ℕ → List ℕ
-table_of n d cs = numberedOf cs (replicate n d)
+table_of n d cs = numbered_of cs (replicate n d)
 
 -- of the points ps, 0 where a point is not among them
 abbrev pub places_of : List ℕ → List ℕ
 places_of ps = table_of 40 0 ps
 
 -- of the coordinates cs, 255 where the Rust has `None`
-abbrev pub columnsOf : List ℕ → List ℕ
-columnsOf cs = table_of 80 255 cs
+abbrev pub columns_of : List ℕ → List ℕ
+columns_of cs = table_of 80 255 cs

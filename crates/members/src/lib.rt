@@ -1,5 +1,8 @@
 // What the fit of a group is about (equations.rs, `Group`, `fit`, `scaled`, `unscale`; solver.rs, `columns`): its points and
 // equations by their numbers, which of its coordinates may move, where they start, and how they come back to their size.
+
+#![tactic(auto)]
+
 mod lists;
 mod movable;
 mod scale;

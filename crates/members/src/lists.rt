@@ -1,7 +1,7 @@
 // Numbers at the head of an array, one pushed after another.
 ghost use Rattle.std.specs.Prelude.{[], ◌≡◌, ◌<◌};
-ghost use Rattle.groups.specs.Chains.{placesFrom, pointsIn, equationsIn};
-ghost use Rattle.members.specs.Lists.{Lists, listed_of, numbersOf, pushedOf, withoutOf};
+ghost use Rattle.groups.specs.Chains.{places_from, points_in, equations_in};
+ghost use Rattle.members.specs.Lists.{Lists, listed_of, numbers_of, pushed_of, without_of};
 
 use crate::{Equations, Listed, Points};
 use groups::Grouping;
@@ -19,7 +19,7 @@ fn none() -> Listed
 // One number more, if it is wanted.
 fn pushed(l: Listed, v: usize, wanted: bool) -> Listed
     requires { l.count < 40 }
-    ensures { result ≡ pushedOf wanted v l }
+    ensures { result ≡ pushed_of wanted v l }
 {
     if !wanted {
         return l;
@@ -33,7 +33,7 @@ fn pushed(l: Listed, v: usize, wanted: bool) -> Listed
 
 // The places that hold g, rising.
 fn holding(of: [usize; 40], g: usize) -> Listed
-    ensures { Lists result (placesFrom 0 of g) }
+    ensures { Lists result (places_from 0 of g) }
 {
     let mut r = none();
     for i in 0..40 {
@@ -43,14 +43,14 @@ fn holding(of: [usize; 40], g: usize) -> Listed
 }
 
 pub fn points_of(gr: Grouping, g: usize) -> Points
-    ensures { Lists result.0 (pointsIn gr g) }
+    ensures { Lists result.0 (points_in gr g) }
 {
     let of = gr.of_point;
     Points(holding(of, g))
 }
 
 pub fn equations_of(gr: Grouping, g: usize) -> Equations
-    ensures { Lists result.0 (equationsIn gr g) }
+    ensures { Lists result.0 (equations_in gr g) }
 {
     let of = gr.of_equation;
     Equations(holding(of, g))
@@ -58,7 +58,7 @@ pub fn equations_of(gr: Grouping, g: usize) -> Equations
 
 // The rest without equation k.
 pub fn without(l: Equations, k: usize) -> Equations
-    ensures { Lists result.0 (withoutOf k (numbersOf l.0)) }
+    ensures { Lists result.0 (without_of k (numbers_of l.0)) }
 {
     let listed = l.0;
     Equations(rest(listed, k))
@@ -66,7 +66,7 @@ pub fn without(l: Equations, k: usize) -> Equations
 
 // The rest without number k.
 fn rest(l: Listed, k: usize) -> Listed
-    ensures { Lists result (withoutOf k (numbersOf l)) }
+    ensures { Lists result (without_of k (numbers_of l)) }
 {
     let n = smaller(l.count, 40);
     let mut r = none();

@@ -1,7 +1,7 @@
 // Which points are fixed, and the coordinates that a fit may move.
 ghost use Rattle.std.specs.Prelude.{[], ◌≡◌, ◌*◌, ◌≤◌, ◌<◌};
-ghost use Rattle.members.specs.Lists.{numbersOf};
-ghost use Rattle.members.specs.Movable.{ListsCoordinates, fixed_of, known_of, pointsAt, freeFrom, coordinatesOf, pushedTwo};
+ghost use Rattle.members.specs.Lists.{numbers_of};
+ghost use Rattle.members.specs.Movable.{ListsCoordinates, fixed_of, known_of, points_at, free_from, coordinates_of, pushed_two};
 
 use crate::{Coordinates, Listed, Points};
 use loops::smaller;
@@ -36,7 +36,7 @@ pub(crate) fn known(p: usize, q: Point) -> Point
 }
 
 fn none_free() -> Coordinates
-    ensures { result ≡ coordinatesOf [] }
+    ensures { result ≡ coordinates_of [] }
 {
     Coordinates {
         items: [0; 80],
@@ -47,7 +47,7 @@ fn none_free() -> Coordinates
 // The two coordinates of the k-th point, if they are wanted.
 fn pushed_two(f: Coordinates, k: usize, wanted: bool) -> Coordinates
     requires { (k < 40) × (f.count ≤ 2 * k) }
-    ensures { result ≡ pushedTwo wanted k f }
+    ensures { result ≡ pushed_two wanted k f }
 {
     if !wanted {
         return f;
@@ -63,14 +63,14 @@ fn pushed_two(f: Coordinates, k: usize, wanted: bool) -> Coordinates
 
 // The free coordinates of a group's points.
 pub fn free(points: [Point; 40], l: Points) -> Coordinates
-    ensures { ListsCoordinates result (freeFrom 0 (pointsAt points (numbersOf l.0))) }
+    ensures { ListsCoordinates result (free_from 0 (points_at points (numbers_of l.0))) }
 {
     let listed = l.0;
     free_of(points, listed)
 }
 
 fn free_of(points: [Point; 40], l: Listed) -> Coordinates
-    ensures { ListsCoordinates result (freeFrom 0 (pointsAt points (numbersOf l))) }
+    ensures { ListsCoordinates result (free_from 0 (points_at points (numbers_of l))) }
 {
     let n = smaller(l.count, 40);
     let mut f = none_free();

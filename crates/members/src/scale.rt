@@ -1,8 +1,8 @@
 // From the coordinates as drawn to units of size about the centre, and back.
 ghost use Rattle.std.specs.Prelude.{◌++◌, ◌≡◌, ◌*◌, ◌≤◌, ◌<◌, length, drop, take};
-ghost use Rattle.members.specs.Lists.{numbersOf};
-ghost use Rattle.members.specs.Movable.{pointsAt};
-ghost use Rattle.members.specs.Scale.{standing, scaledOf, start_of, start_in, moveBy, moved, backTo, unscaleOne, unscaleOf};
+ghost use Rattle.members.specs.Lists.{numbers_of};
+ghost use Rattle.members.specs.Movable.{points_at};
+ghost use Rattle.members.specs.Scale.{standing, scaled_of, start_of, start_in, move_by, moved, back_to, unscale_one, unscale_of};
 
 use crate::movable::known;
 use crate::{Listed, Points};
@@ -22,7 +22,7 @@ fn stands(state: State, start: Vec2) -> Vec2
 
 // Where the fit starts a point: at its place, or where it was drawn.
 pub fn scaled(p: Point, centre: Vec2, size: f64) -> Vec2
-    ensures { result ≡ scaledOf centre size p }
+    ensures { result ≡ scaled_of centre size p }
 {
     let state = p.state;
     let start = p.start;
@@ -38,7 +38,7 @@ fn start_all(
     x: &mut [f64],
 )
     requires { (n ≤ 40) × (2 * n ≤ length x.old) }
-    ensures { x.new ≡ start_of centre size (pointsAt points (take n items)) ++ drop (2 * n) x.old }
+    ensures { x.new ≡ start_of centre size (points_at points (take n items)) ++ drop (2 * n) x.old }
 {
     for k in 0..n {
         let p = items[k];
@@ -52,14 +52,14 @@ fn start_all(
 
 // Where the fit of a group's points starts, at the head of x.
 pub fn start(points: [Point; 40], centre: Vec2, size: f64, l: Points, x: &mut [f64])
-    ensures { x.new ≡ start_in centre size (pointsAt points (numbersOf l.0)) x.old }
+    ensures { x.new ≡ start_in centre size (points_at points (numbers_of l.0)) x.old }
 {
     let listed = l.0;
     start_of(points, centre, size, listed, x);
 }
 
 fn start_of(points: [Point; 40], centre: Vec2, size: f64, l: Listed, x: &mut [f64])
-    ensures { x.new ≡ start_in centre size (pointsAt points (numbersOf l)) x.old }
+    ensures { x.new ≡ start_in centre size (points_at points (numbers_of l)) x.old }
 {
     let items = l.items;
     let n = smaller(l.count, 40);
@@ -70,7 +70,7 @@ fn start_of(points: [Point; 40], centre: Vec2, size: f64, l: Listed, x: &mut [f6
 
 // How far a coordinate has moved: not at all where it is what it started from, so that scaling moves nothing.
 fn move_by(size: f64, x: f64, s: f64) -> f64
-    ensures { result ≡ moveBy size x s }
+    ensures { result ≡ move_by size x s }
 {
     if x == s { 0.0 } else { (x - s) * size }
 }
@@ -85,7 +85,7 @@ fn moved_by(size: f64, start: Vec2, s: Vec2, x: Vec2) -> Vec2
 }
 
 fn back(centre: Vec2, size: f64, state: State, start: Vec2, x: Vec2) -> Vec2
-    ensures { result ≡ backTo centre size state start x }
+    ensures { result ≡ back_to centre size state start x }
 {
     match state {
         State::Free => moved_by(size, start, in_units(centre, size, start), x),
@@ -97,7 +97,7 @@ fn back(centre: Vec2, size: f64, state: State, start: Vec2, x: Vec2) -> Vec2
 // The k-th listed point, q with the number p, goes to its two places.
 fn unscale_one(q: Point, centre: Vec2, size: f64, p: usize, x: &[f64], k: usize, out: &mut [f64])
     requires { k < 40 }
-    ensures { out.new ≡ unscaleOne q centre size p x.now k out.old }
+    ensures { out.new ≡ unscale_one q centre size p x.now k out.old }
 {
     if p < 40 {
         let state = q.state;
@@ -115,14 +115,14 @@ fn unscale_one(q: Point, centre: Vec2, size: f64, p: usize, x: &[f64], k: usize,
 // The listed points back at their size, among all points: a placed point at its place, any other as far from its start as
 // it has moved.
 pub fn unscale(points: [Point; 40], centre: Vec2, size: f64, l: Points, x: &[f64], out: &mut [f64])
-    ensures { out.new ≡ unscaleOf points centre size (numbersOf l.0) x.now out.old }
+    ensures { out.new ≡ unscale_of points centre size (numbers_of l.0) x.now out.old }
 {
     let listed = l.0;
     unscale_all(points, centre, size, listed, x, out);
 }
 
 fn unscale_all(points: [Point; 40], centre: Vec2, size: f64, l: Listed, x: &[f64], out: &mut [f64])
-    ensures { out.new ≡ unscaleOf points centre size (numbersOf l) x.now out.old }
+    ensures { out.new ≡ unscale_of points centre size (numbers_of l) x.now out.old }
 {
     let n = smaller(l.count, 40);
     for k in 0..n {

@@ -16,9 +16,9 @@ use lib.Seq.{get_or-set_same, get_or-set_other, set_comm, ext_get_or}
 use Rattle.floats.specs.Ops.{zero⁺}
 use Rattle.loops.specs.Turns.{up_to}
 use Rattle.loops.proofs.Cells.{cell-column, cell_row}
-use Rattle.loops.proofs.Keeps.{upTo-keeps}
-use Rattle.normal.specs.Half.{halfPlace, spreadOne, spreadRow, spread_of}
-use Rattle.normal.specs.Normal.{rowsProduct, setBoth, pair_of, pairsOf, productOf}
+use Rattle.loops.proofs.Keeps.{up_to-keeps}
+use Rattle.normal.specs.Half.{half_place, spread_one, spread_row, spread_of}
+use Rattle.normal.specs.Normal.{rows_product, set_both, pair_of, pairs_of, product_of}
 
 -- two places that are one place
 one_cell : (n p q r c : ℕ) → q < n → c < n → p * n + q ≡ r * n + c → (p ≡ r) × (q ≡ c)
@@ -26,8 +26,8 @@ one_cell n p q r c h k e =
     let f : q ≡ c = cell-column n p q r c h k e in
     (eq_of_mul-eq-mul_right n (omega arith) p r (omega (arith, e, f)), f)
 
-both_ways : (rows i k : ℕ) (s : Float) (a : List Float) → setBoth rows i k s a ≡ setBoth rows k i s a
-unfolding setBoth
+both_ways : (rows i k : ℕ) (s : Float) (a : List Float) → set_both rows i k s a ≡ set_both rows k i s a
+unfolding set_both
 both_ways rows i k s a = elim (ℕ_discrete (i * rows + k) (k * rows + i)) [
   | yes e ↦ rw e
   | no n ↦ set_comm a (i * rows + k) (k * rows + i) s s n
@@ -68,8 +68,8 @@ module _ (rows : ℕ) (f : ℕ → ℕ → Float) where
 
     -- a place x that is one of the two exactly where (lo, hi) is that pair
     after-put : (lo hi x : ℕ) → lo ≤ hi → E lo hi → ((x ≡ n * rows + m) ⊎ (x ≡ m * rows + n) ↔ (lo ≡ n) × (hi ≡ m)) → (D lo hi → get_or a x nan ≡ f lo hi)
-        → get_or (setBoth rows n m (f n m) a) x nan ≡ f lo hi
-    unfolding setBoth
+        → get_or (set_both rows n m (f n m) a) x nan ≡ f lo hi
+    unfolding set_both
     after-put lo hi x l e is old =
         two-places a (n * rows + m) (m * rows + n) x (f n m) (f lo hi) (in-matrix n m low within) (in-matrix m n within low)
         (λ q. let s = is.0 q in rw (s.0, s.1))
@@ -94,8 +94,8 @@ module _ (rows : ℕ) (f : ℕ → ℕ → Float) where
           λ c. inr (rw (c.0, c.1)),
         )
 
-    put : Has E (setBoth rows n m (f n m) a)
-    unfolding setBoth
+    put : Has E (set_both rows n m (f n m) a)
+    unfolding set_both
     put = record {
       long = rw (length-set, length-set) h.long;
       cells = λ lo hi l k e. (
@@ -145,51 +145,51 @@ no-turn i k p q none (inr h) = absurd (omega (arith, h.1, none h.0))
 
 module _ (rows nf : ℕ) (j : List Float) where
   abbrev Made : (ℕ → ℕ → Type 0) → List Float → Type 0
-  Made D a = Has rows (rowsProduct nf j) D a
+  Made D a = Has rows (rows_product nf j) D a
 
-  row_made : (i : ℕ) (a : List Float) → i < rows → Made (λ lo hi. lo < i) a → Made (λ lo hi. lo < i + 1) (pairsOf rows nf j i a)
-  unfolding pairsOf pair_of
+  row_made : (i : ℕ) (a : List Float) → i < rows → Made (λ lo hi. lo < i) a → Made (λ lo hi. lo < i + 1) (pairs_of rows nf j i a)
+  unfolding pairs_of pair_of
   row_made i a h d =
-      told rows (rowsProduct nf j) (Before i rows) (λ lo hi. lo < i + 1) _ (λ lo hi l k e. next-turn i rows lo hi k e)
-      (upTo-keeps (λ k s. (i ≤ k) × Made (Before i k) s) (pair_of rows nf j i) rows
-      (λ k s q c. (omega (arith, c.0), put rows (rowsProduct nf j) (Before i k) (Before i (k + 1)) s i k c.0 q (λ lo hi l e. last_turn i k lo hi e) c.1))
+      told rows (rows_product nf j) (Before i rows) (λ lo hi. lo < i + 1) _ (λ lo hi l k e. next-turn i rows lo hi k e)
+      (up_to-keeps (λ k s. (i ≤ k) × Made (Before i k) s) (pair_of rows nf j i) rows
+      (λ k s q c. (omega (arith, c.0), put rows (rows_product nf j) (Before i k) (Before i (k + 1)) s i k c.0 q (λ lo hi l e. last_turn i k lo hi e) c.1))
       i a (omega (arith, h))
-      (le_refl i, told rows (rowsProduct nf j) (λ lo hi. lo < i) (Before i i) a (λ lo hi l k e. no-turn i i lo hi (λ z. omega (arith, z, l)) e) d)).1
+      (le_refl i, told rows (rows_product nf j) (λ lo hi. lo < i) (Before i i) a (λ lo hi l k e. no-turn i i lo hi (λ z. omega (arith, z, l)) e) d)).1
 
-  pub product-made : Full rows (rowsProduct nf j) (productOf rows nf j)
-  unfolding productOf
+  pub product-made : Full rows (rows_product nf j) (product_of rows nf j)
+  unfolding product_of
   product-made =
-      told rows (rowsProduct nf j) (λ lo hi. lo < rows) (λ lo hi. hi < rows) _ (λ lo hi l k e. omega (arith, l, k))
-      (upTo-keeps (λ i a. Made (λ lo hi. lo < i) a) (pairsOf rows nf j) rows (λ i s h c. row_made i s h c) 0 _ (omega arith)
+      told rows (rows_product nf j) (λ lo hi. lo < rows) (λ lo hi. hi < rows) _ (λ lo hi l k e. omega (arith, l, k))
+      (up_to-keeps (λ i a. Made (λ lo hi. lo < i) a) (pairs_of rows nf j) rows (λ i s h c. row_made i s h c) 0 _ (omega arith)
       (record { long = length-replicate _ _; cells = λ lo hi l k e. absurd (omega (arith, e)) }))
 
 -- a half of which f says what it has
-module _ (rows : ℕ) (f : ℕ → ℕ → Float) (h : List Float) (reads : (lo hi : ℕ) → lo ≤ hi → hi < rows → get_or h (halfPlace hi lo) nan ≡ f lo hi) where
-  pair-spread : (i k : ℕ) (s : List Float) → i < rows → k < i + 1 → Has rows f (λ lo hi. Before i k hi lo) s → Has rows f (λ lo hi. Before i (k + 1) hi lo) (spreadOne rows h i k s)
-  unfolding spreadOne
+module _ (rows : ℕ) (f : ℕ → ℕ → Float) (h : List Float) (reads : (lo hi : ℕ) → lo ≤ hi → hi < rows → get_or h (half_place hi lo) nan ≡ f lo hi) where
+  pair-spread : (i k : ℕ) (s : List Float) → i < rows → k < i + 1 → Has rows f (λ lo hi. Before i k hi lo) s → Has rows f (λ lo hi. Before i (k + 1) hi lo) (spread_one rows h i k s)
+  unfolding spread_one
   pair-spread i k s l q c =
       let order : k ≤ i = omega (arith, q) in
-      rw (both_ways rows i k (get_or h (halfPlace i k) nan) s, reads k i order l)
+      rw (both_ways rows i k (get_or h (half_place i k) nan) s, reads k i order l)
       (put rows f (λ lo hi. Before i k hi lo) (λ lo hi. Before i (k + 1) hi lo) s k i order l
       (λ lo hi o e. elim (last_turn i k hi lo e) [ inl d ↦ inl d | inr z ↦ inr (z.1, z.0) ]) c)
 
-  row-spread : (i : ℕ) (a : List Float) → i < rows → Has rows f (λ lo hi. hi < i) a → Has rows f (λ lo hi. hi < i + 1) (spreadRow rows h i a)
-  unfolding spreadRow
+  row-spread : (i : ℕ) (a : List Float) → i < rows → Has rows f (λ lo hi. hi < i) a → Has rows f (λ lo hi. hi < i + 1) (spread_row rows h i a)
+  unfolding spread_row
   row-spread i a l d =
       told rows f (λ lo hi. Before i (i + 1) hi lo) (λ lo hi. hi < i + 1) _ (λ lo hi o k e. next-turn i (i + 1) hi lo (omega (arith, o, e)) e)
-      (upTo-keeps (λ k s. Has rows f (λ lo hi. Before i k hi lo) s) (spreadOne rows h i) (i + 1) (λ k s q c. pair-spread i k s l q c)
+      (up_to-keeps (λ k s. Has rows f (λ lo hi. Before i k hi lo) s) (spread_one rows h i) (i + 1) (λ k s q c. pair-spread i k s l q c)
       0 a (omega arith) (told rows f (λ lo hi. hi < i) (λ lo hi. Before i 0 hi lo) a (λ lo hi o k e. no-turn i 0 hi lo (λ z. omega arith) e) d))
 
-  spread-made : (a : List Float) → length a ≡ rows * rows → Full rows f (up_to rows 0 (spreadRow rows h) a)
+  spread-made : (a : List Float) → length a ≡ rows * rows → Full rows f (up_to rows 0 (spread_row rows h) a)
   spread-made a long =
-      upTo-keeps (λ i a. Has rows f (λ lo hi. hi < i) a) (spreadRow rows h) rows (λ i s q c. row-spread i s q c) 0 a (omega arith)
+      up_to-keeps (λ i a. Has rows f (λ lo hi. hi < i) a) (spread_row rows h) rows (λ i s q c. row-spread i s q c) 0 a (omega arith)
       (record { long = long; cells = λ lo hi l k e. absurd (omega (arith, e)) })
 
-pub back : (rows : ℕ) (f : ℕ → ℕ → Float) (h a : List Float) → ((lo hi : ℕ) → lo ≤ hi → hi < rows → get_or h (halfPlace hi lo) nan ≡ f lo hi) → Full rows f a → spread_of rows h ≡ a
+pub back : (rows : ℕ) (f : ℕ → ℕ → Float) (h a : List Float) → ((lo hi : ℕ) → lo ≤ hi → hi < rows → get_or h (half_place hi lo) nan ≡ f lo hi) → Full rows f a → spread_of rows h ≡ a
 unfolding spread_of
 back rows f h a reads full = only-matrix rows f _ _ (spread-made rows f h reads (replicate (rows * rows) zero⁺) (length-replicate _ _)) full
 
-pub any-start : (rows : ℕ) (h w : List Float) → length w ≡ rows * rows → up_to rows 0 (spreadRow rows h) w ≡ spread_of rows h
+pub any-start : (rows : ℕ) (h w : List Float) → length w ≡ rows * rows → up_to rows 0 (spread_row rows h) w ≡ spread_of rows h
 any-start rows h w long =
-    let f : ℕ → ℕ → Float = λ lo hi. get_or h (halfPlace hi lo) nan in
+    let f : ℕ → ℕ → Float = λ lo hi. get_or h (half_place hi lo) nan in
     sym (back rows f h _ (λ lo hi l k. refl) (spread-made rows f h (λ lo hi l k. refl) w long))

@@ -10,7 +10,7 @@ use lib.Ieee.{Float}
 use lib.ListN.{length}
 use mir.Syntax.{w64}
 use mir.Val.{Fits}
-use Rattle.normal.specs.Half.{triangle, halfMaxOf}
+use Rattle.normal.specs.Half.{triangle, half_max_of}
 use Rattle.normal.specs.Promise.{Makes, Tops}
 use Rattle.normal.specs.declared.Largest.{Largest}
 use Rattle.normal.specs.declared.Made.{Made}
@@ -57,5 +57,5 @@ module _ (rows : ℕ) (a : List Float) where
   pub none-short : ltb 80 rows ≡ false → leb (triangle rows) (length a) ≡ false → Tops rows a Largest.TooShort
   none-short h k = record { answer = rw (h, k); meaning = rw (h, k) }
 
-  pub top : (m : Float) → ltb 80 rows ≡ false → leb (triangle rows) (length a) ≡ true → m ≡ halfMaxOf rows a → Tops rows a (Largest.Of m)
+  pub top : (m : Float) → ltb 80 rows ≡ false → leb (triangle rows) (length a) ≡ true → m ≡ half_max_of rows a → Tops rows a (Largest.Of m)
   top m h k e = record { answer = rw (h, k, e); meaning = rw (h, k, e) }

@@ -1,7 +1,7 @@
 // The diagonal of the product, and its damping.
 ghost use Rattle.std.specs.Prelude.{◌≡◌, ◌*◌, ◌≤◌, length};
-ghost use Rattle.normal.specs.Half.{triangle, spread_of, halfLargestOf};
-ghost use Rattle.normal.specs.Normal.{dampedOf};
+ghost use Rattle.normal.specs.Half.{triangle, spread_of, half_largest_of};
+ghost use Rattle.normal.specs.Normal.{damped_of};
 ghost use Rattle.normal.specs.Promise.{Damps, Tops};
 
 use crate::half::triangle;
@@ -10,7 +10,7 @@ use crate::{Largest, Made};
 
 fn largest(h: &[f64], rows: usize) -> f64
     requires { (rows ≤ 80) × (triangle rows ≤ length h.now) }
-    ensures { result ≡ halfLargestOf rows h.now }
+    ensures { result ≡ half_largest_of rows h.now }
 {
     let mut m = 0.0;
     for i in 0..rows {
@@ -34,7 +34,7 @@ pub fn diag_max(h: &[f64], rows: usize) -> Largest
 
 fn add_on_diagonal(w: &mut [f64], rows: usize, mu: f64, m: f64)
     requires { rows * rows ≤ length w.old }
-    ensures { w.new ≡ dampedOf rows mu m w.old }
+    ensures { w.new ≡ damped_of rows mu m w.old }
 {
     for i in 0..rows {
         w[i * rows + i] = w[i * rows + i] + mu * m;
@@ -44,7 +44,7 @@ fn add_on_diagonal(w: &mut [f64], rows: usize, mu: f64, m: f64)
 // The matrix whose half h is with mu * m added on its diagonal, over the whole of w. The half itself is never damped.
 fn whole_damped(h: &[f64], w: &mut [f64], rows: usize, mu: f64, m: f64)
     requires { (rows ≤ 80) × (triangle rows ≤ length h.now) × (length w.old ≡ rows * rows) }
-    ensures { w.new ≡ dampedOf rows mu m (spread_of rows h.now) }
+    ensures { w.new ≡ damped_of rows mu m (spread_of rows h.now) }
 {
     spread(h, w, rows);
     add_on_diagonal(w, rows, mu, m);

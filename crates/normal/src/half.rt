@@ -2,8 +2,8 @@
 ghost use Rattle.std.specs.Prelude.{◌≡◌, ◌*◌, ◌≤◌, ◌<◌, length};
 ghost use Rattle.loops.specs.Turns.{up_to};
 ghost use Rattle.normal.specs.Half.{triangle};
-ghost use Rattle.normal.specs.Inside.{putRow};
-ghost use Rattle.normal.specs.Normal.{rowsProduct};
+ghost use Rattle.normal.specs.Inside.{put_row};
+ghost use Rattle.normal.specs.Normal.{rows_product};
 ghost use Rattle.normal.specs.Promise.{Multiplies};
 
 use crate::Made;
@@ -19,7 +19,7 @@ pub(crate) fn triangle(i: usize) -> usize
 // The product of rows i and k of the Jacobian.
 fn rows_product(j: &[f64], rows: usize, nf: usize, i: usize, k: usize) -> f64
     requires { (i < rows) × (k < rows) × (rows * nf ≤ length j.now) }
-    ensures { result ≡ rowsProduct nf j.now i k }
+    ensures { result ≡ rows_product nf j.now i k }
 {
     let p = i * nf;
     let q = k * nf;
@@ -33,7 +33,7 @@ fn rows_product(j: &[f64], rows: usize, nf: usize, i: usize, k: usize) -> f64
 // Row i of the half. The product is symmetric, so what is right of the diagonal is not worked out.
 fn half_row(j: &[f64], h: &mut [f64], rows: usize, nf: usize, i: usize)
     requires { (i < rows) × (rows ≤ 80) × (rows * nf ≤ length j.now) × (triangle rows ≤ length h.old) }
-    ensures { h.new ≡ putRow nf j.now i h.old }
+    ensures { h.new ≡ put_row nf j.now i h.old }
 {
     let t = triangle(i);
     for k in 0..i + 1 {
@@ -43,7 +43,7 @@ fn half_row(j: &[f64], h: &mut [f64], rows: usize, nf: usize, i: usize)
 
 fn half_rows(j: &[f64], h: &mut [f64], rows: usize, nf: usize)
     requires { (rows ≤ 80) × (rows * nf ≤ length j.now) × (triangle rows ≤ length h.old) }
-    ensures { h.new ≡ up_to rows 0 (putRow nf j.now) h.old }
+    ensures { h.new ≡ up_to rows 0 (put_row nf j.now) h.old }
 {
     for i in 0..rows {
         half_row(j, h, rows, nf, i);

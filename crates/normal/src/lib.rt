@@ -2,6 +2,9 @@
 // The Jacobian is rows × nf and the damped copy rows × rows, each at the head of a lent slice, row after row; of the product itself only the
 // lower half is kept, row after row, so that (i, k) with k ≤ i is at i(i + 1)/2 + k. Where a slice is shorter than its shape, or there are
 // too many rows or free coordinates, the call says so and nothing happens.
+
+#![tactic(auto)]
+
 mod diagonal;
 mod half;
 mod spread;

@@ -1,6 +1,6 @@
 // The step: the free coordinates less the Jacobian's transpose times y.
 ghost use Rattle.std.specs.Prelude.{◌≡◌, ◌*◌, ◌≤◌, ◌<◌, length};
-ghost use Rattle.normal.specs.Normal.{step_of, moveOne, movedOf};
+ghost use Rattle.normal.specs.Normal.{step_of, move_one, moved_of};
 ghost use Rattle.normal.specs.Promise.{Moves};
 
 use crate::Made;
@@ -19,7 +19,7 @@ fn step_of(j: &[f64], y: &[f64], rows: usize, nf: usize, c: usize) -> f64
 // Coordinate free[c] less its part of the step.
 fn move_one(j: &[f64], y: &[f64], free: &[usize], x: &mut [f64], rows: usize, nf: usize, c: usize)
     requires { (c < nf) × (rows * nf ≤ length j.now) × (rows ≤ length y.now) × (nf ≤ length free.now) }
-    ensures { x.new ≡ moveOne rows nf j.now y.now free.now c x.old }
+    ensures { x.new ≡ move_one rows nf j.now y.now free.now c x.old }
 {
     let s = step_of(j, y, rows, nf, c);
     let at = free[c];
@@ -30,7 +30,7 @@ fn move_one(j: &[f64], y: &[f64], free: &[usize], x: &mut [f64], rows: usize, nf
 
 fn move_all(j: &[f64], y: &[f64], free: &[usize], x: &mut [f64], rows: usize, nf: usize)
     requires { (rows * nf ≤ length j.now) × (rows ≤ length y.now) × (nf ≤ length free.now) }
-    ensures { x.new ≡ movedOf rows nf j.now y.now free.now x.old }
+    ensures { x.new ≡ moved_of rows nf j.now y.now free.now x.old }
 {
     for c in 0..nf {
         move_one(j, y, free, x, rows, nf, c);

@@ -12,9 +12,9 @@ use Rattle.nullspace.specs.Promise.{checked}
 
 module _ {A : Type 0} (rows n : ℕ) (m w out : List Float) where
   module _ (v three nine done : A) where
-    pub too_many_rows : 64 < rows → v ≡ three → v ≡ checked rows n m w out three nine done
+    pub too-many-rows : 64 < rows → v ≡ three → v ≡ checked rows n m w out three nine done
     unfolding checked
-    too_many_rows h e = pick_yes _ _ _ _ (lt-ltb 64 rows h) e
+    too-many-rows h e = pick_yes _ _ _ _ (lt-ltb 64 rows h) e
 
     module _ (r : rows ≤ 64) where
       pub too-many-columns : 80 < n → v ≡ three → v ≡ checked rows n m w out three nine done

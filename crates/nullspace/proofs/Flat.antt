@@ -12,7 +12,7 @@ use native.Mathlib.Omega.{arith}
 use lib.ListN.{length, take, drop, set, length-append}
 use lib.Seq.{take-nil, drop-nil, take_at, take-suc, take-length, drop-append-add, drop-drop}
 use lib.Ieee.{Float}
-use Rattle.loops.proofs.Keeps.{upTo-keeps}
+use Rattle.loops.proofs.Keeps.{up_to-keeps}
 use Rattle.nullspace.specs.Steps.{push, collect, item, row_at}
 
 abbrev pub Wide : ℕ → List (List Float) → Type 0
@@ -89,12 +89,12 @@ drop-take (suc k) (suc n) (x ∷ l) = rw suc-sub-suc (drop-take k n l)
 pub rest-is : (n k j : ℕ) (l : List (List Float)) → Wide n l → take (n - k) (drop (j * n + k) (flatten l)) ≡ drop k (item l j)
 rest-is n k j l w = rw (← drop-drop) (sym (drop-take k n (drop (j * n) (flatten l))) ∙ ap (drop k) (row_is n j l w))
 
-one_more : (n i : ℕ) (l : List (List Float)) (b : List Float) → i < length l → Wide n l → push (λ i. row_at n i (flatten l ++ b)) i (take i l) ≡ take (i + 1) l
+one-more : (n i : ℕ) (l : List (List Float)) (b : List Float) → i < length l → Wide n l → push (λ i. row_at n i (flatten l ++ b)) i (take i l) ≡ take (i + 1) l
 unfolding push
-one_more n i l b h w = rw (row_in n i l b h w, add-one) (sym (take-suc l i [] h))
+one-more n i l b h w = rw (row_in n i l b h w, add-one) (sym (take-suc l i [] h))
 
 pub rows_are : (n : ℕ) (l : List (List Float)) (b : List Float) → Wide n l → collect 0 (length l) (λ i. row_at n i (flatten l ++ b)) ≡ l
 unfolding collect
 rows_are n l b w =
-    upTo-keeps (λ i s. s ≡ take i l) (push (λ i. row_at n i (flatten l ++ b))) (length l) (λ i s h e. rw e (one_more n i l b h w)) 0 [] (omega arith) refl
+    up_to-keeps (λ i s. s ≡ take i l) (push (λ i. row_at n i (flatten l ++ b))) (length l) (λ i s h e. rw e (one-more n i l b h w)) 0 [] (omega arith) refl
     ∙ take-length l

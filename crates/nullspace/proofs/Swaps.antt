@@ -8,11 +8,11 @@ use lib.ListN.{length, get_or, take, drop, set, length-append, drop_of_length-le
 use lib.Seq.{length-take-le, take_all, set-append_left, set_split, set-get_or, split_at}
 use lib.Ieee.{Float, nan}
 use Rattle.floats.specs.Lists.{swap_at}
-use Rattle.loops.proofs.Keeps.{upTo-keeps}
+use Rattle.loops.proofs.Keeps.{up_to-keeps}
 use Rattle.loops.proofs.Parts.{get-past, set_past}
 use Rattle.loops.specs.Turns.{up_to}
 use Rattle.nullspace.specs.Steps.{item, swapped}
-use Rattle.nullspace.specs.Layout.{swapHead}
+use Rattle.nullspace.specs.Layout.{swap_head}
 use Rattle.nullspace.proofs.Zips.{mixed, mixed-get, mixed-set, mixed-long}
 use Rattle.nullspace.proofs.Flat.{Wide, wide_at, wide-take, length-flatten, flatten-append}
 
@@ -55,19 +55,19 @@ module _ (n p : ℕ) (x a y b : List Float) (long : length x ≡ n) (also : leng
     set_first : (c : List Float) → set (l ++ c) i (get_or y i nan) ≡ mixed (i + 1) y x ++ c
     set_first c = set-append_left l c i (get_or y i nan) (omega (arith, one_way)) ∙ ap (λ s. s ++ c) (mixed-set i y x (omega arith) (omega arith))
 
-    turn : swapHead n p i (halfway i) ≡ halfway (i + 1)
-    unfolding swapHead swap_at
+    turn : swap_head n p i (halfway i) ≡ halfway (i + 1)
+    unfolding swap_head swap_at
     turn = rw (get_first, get_other, set_other) (set_first _)
 
-  changed : up_to n 0 (swapHead n p) (x ++ (a ++ (y ++ b))) ≡ y ++ (a ++ (x ++ b))
+  changed : up_to n 0 (swap_head n p) (x ++ (a ++ (y ++ b))) ≡ y ++ (a ++ (x ++ b))
   changed =
       let u : length x ≤ n = omega arith in
       let v : length y ≤ n = omega arith in
-      upTo-keeps (λ i s. s ≡ halfway i) (swapHead n p) n (λ i s h e. rw e (turn i h)) 0 (x ++ (a ++ (y ++ b))) (omega arith) refl
+      up_to-keeps (λ i s. s ≡ halfway i) (swap_head n p) n (λ i s h e. rw e (turn i h)) 0 (x ++ (a ++ (y ++ b))) (omega arith) refl
       ∙ rw (take_all n y v, take_all n x u, drop_of_length-le x u, drop_of_length-le y v, append-nil y, append-nil x)
 
-itself : (n i : ℕ) (s : List Float) → swapHead n 0 i s ≡ s
-unfolding swapHead swap_at
+itself : (n i : ℕ) (s : List Float) → swap_head n 0 i s ≡ s
+unfolding swap_head swap_at
 itself n i s = rw (zero-mul, zero-add) (ap (λ r. set r i (get_or s i nan)) (set-get_or s i nan) ∙ set-get_or s i nan)
 
 -- the rows before and after row q
@@ -79,14 +79,14 @@ parts-set : (l : List (List Float)) (q : ℕ) (c : List Float) → q < length l 
 unfolding flatten
 parts-set l q c h = ap flatten (set_split l q c h) ∙ flatten-append (take q l) (c ∷ drop (suc q) l)
 
-pub rows-swapped : (n p : ℕ) (l : List (List Float)) → p < length l → Wide n l → up_to n 0 (swapHead n p) (flatten l) ≡ flatten (swapped 0 p l)
+pub rows-swapped : (n p : ℕ) (l : List (List Float)) → p < length l → Wide n l → up_to n 0 (swap_head n p) (flatten l) ≡ flatten (swapped 0 p l)
 unfolding swapped flatten
 rows-swapped n p [] h w = absurd (not-suc-le-zero h)
-rows-swapped n zero (x ∷ l) h w = upTo-keeps (λ i s. s ≡ flatten (x ∷ l)) (swapHead n 0) n (λ i s k e. itself n i s ∙ e) 0 (flatten (x ∷ l)) (omega arith) refl
+rows-swapped n zero (x ∷ l) h w = up_to-keeps (λ i s. s ≡ flatten (x ∷ l)) (swap_head n 0) n (λ i s k e. itself n i s ∙ e) 0 (flatten (x ∷ l)) (omega arith) refl
 rows-swapped n (suc q) (x ∷ l) h w =
     let k : q < length l = le_of_suc-le-suc h in
     let a : List Float = flatten (take q l) in
     let off : length (x ++ a) ≡ suc q * n = omega (arith, w.0, length-append x a, length-flatten n (take q l) (wide-take n q l w.1), ap (λ i. i * n) (length-take-le q l (omega arith))) in
-    ap (λ s. up_to n 0 (swapHead n (suc q)) (x ++ s)) (parts l q k)
+    ap (λ s. up_to n 0 (swap_head n (suc q)) (x ++ s)) (parts l q k)
     ∙ changed n (suc q) x a (item l q) (flatten (drop (suc q) l)) w.0 (wide_at n l q k w.1) off
     ∙ ap (λ s. item l q ++ s) (sym (parts-set l q x k))

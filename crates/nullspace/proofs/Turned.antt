@@ -10,16 +10,16 @@ use lib.Dec.{ltb}
 use lib.ListN.{length, take, drop, set, replicate, length-append, length-drop, length-set, length-map, length-replicate, get_or-append}
 use lib.Seq.{length-take-le, take_at, drop-cons, drop-append-le, drop-append-add, drop-set-add, get_or-drop, set-append_left}
 use lib.Ieee.{Float, nan}
-use Rattle.floats.specs.Magnitude.{magnitudeOf}
+use Rattle.floats.specs.Magnitude.{magnitude_of}
 use Rattle.floats.specs.Ops.{zero⁺}
-use Rattle.loops.proofs.Keeps.{upTo-keeps}
+use Rattle.loops.proofs.Keeps.{up_to-keeps}
 use Rattle.loops.proofs.Picks.{of-cond}
 use Rattle.loops.specs.Turns.{up_to}
-use Rattle.loops.proofs.Turning.{upTo-part}
-use Rattle.root.specs.Root.{sqrtOf}
-use Rattle.solver.specs.Sums.{norm2Of}
-use Rattle.nullspace.specs.Steps.{item, reflectOf, normOf, longer, bestOf, swapped, away, reflectorOf, reflectFrom}
-use Rattle.nullspace.specs.Layout.{normAt, longerRow, longestOf, swapHead, reflectorAt, largestNorm, begun, turned}
+use Rattle.loops.proofs.Turning.{up_to-part}
+use Rattle.root.specs.Root.{sqrt_of}
+use Rattle.solver.specs.Sums.{norm2_of}
+use Rattle.nullspace.specs.Steps.{item, reflect_of, norm_of, longer, best_of, swapped, away, reflector_of, reflect_from}
+use Rattle.nullspace.specs.Layout.{norm_at, longer_row, longest_of, swap_head, reflector_at, largest_norm, begun, turned}
 use Rattle.nullspace.proofs.Flat.{Wide, wide-append, wide-take, wide-drop, wide-set, wide-map, wide_at, rest-is}
 use Rattle.nullspace.proofs.Reflects.{reflect-length, rows-reflected}
 use Rattle.nullspace.proofs.Swaps.{rows-swapped}
@@ -36,14 +36,14 @@ module _ (n k : ℕ) (norm : Float) (c b : List Float) (wide : length c ≡ n) (
   in-front : replicate k zero⁺ ++ drop k (c ++ b) ≡ opened ++ b
   in-front = rw (drop-append-le k c b (omega arith)) (sym (append_assoc (replicate k zero⁺) (drop k c) b))
 
-  head-is : away k norm (replicate k zero⁺ ++ drop k (c ++ b)) ≡ reflectorOf k norm c ++ b
-  unfolding away reflectorOf
+  head-is : away k norm (replicate k zero⁺ ++ drop k (c ++ b)) ≡ reflector_of k norm c ++ b
+  unfolding away reflector_of
   head-is =
       let g : k < length opened = omega (arith, opened-long) in
       rw (in-front, get_or-append opened b nan k g) (set-append_left opened b k _ g)
 
-  reflector-long : length (reflectorOf k norm c) ≡ n
-  unfolding away reflectorOf
+  reflector-long : length (reflector_of k norm c) ≡ n
+  unfolding away reflector_of
   reflector-long = length-set opened k _ ∙ opened-long
 
 -- ---- the columns from k on
@@ -64,45 +64,45 @@ module _ (n k : ℕ) (cols : List (List Float)) (wide : Wide n cols) (below : k 
   m = length cols - k
 
   abbrev place : ℕ
-  place = longestOf n m k t
+  place = longest_of n m k t
 
   abbrev best : ℕ
-  best = bestOf k cols
+  best = best_of k cols
 
   abbrev pub norm : Float
-  norm = normOf k cols best
+  norm = norm_of k cols best
 
   abbrev swap : List (List Float)
   swap = swapped k best cols
 
   abbrev pub v : List Float
-  v = reflectorOf k norm (item swap k)
+  v = reflector_of k norm (item swap k)
 
-  norm-is : (p : ℕ) → normAt n k t p ≡ normOf k cols (k + p)
-  unfolding normAt normOf
-  norm-is p = ap (λ r. sqrtOf (norm2Of r)) (rest-is n k p (drop k cols) (wide-drop n k cols wide) ∙ ap (drop k) (get_or-drop k cols p []))
+  norm-is : (p : ℕ) → norm_at n k t p ≡ norm_of k cols (k + p)
+  unfolding norm_at norm_of
+  norm-is p = ap (λ r. sqrt_of (norm2_of r)) (rest-is n k p (drop k cols) (wide-drop n k cols wide) ∙ ap (drop k) (get_or-drop k cols p []))
 
-  longer-is : (i p : ℕ) → longer k cols (k + i) (k + p) ≡ k + longerRow n k t i p
-  unfolding longer longerRow
-  longer-is i p = rw (norm-is i, norm-is p) (of-cond (λ q. k + q) (ltb (magnitudeOf (normOf k cols (k + p))) (magnitudeOf (normOf k cols (k + i)))) i p)
+  longer-is : (i p : ℕ) → longer k cols (k + i) (k + p) ≡ k + longer_row n k t i p
+  unfolding longer longer_row
+  longer-is i p = rw (norm-is i, norm-is p) (of-cond (λ q. k + q) (ltb (magnitude_of (norm_of k cols (k + p))) (magnitude_of (norm_of k cols (k + i)))) i p)
 
   best-is : best ≡ k + place
-  unfolding bestOf longestOf
+  unfolding best_of longest_of
   best-is =
       let e : k + m ≡ length cols = omega arith in
-      rw (e, add-zero) at (upTo-part (λ p. k + p) k (longer k cols) (longerRow n k t) longer-is m 1 0)
+      rw (e, add-zero) at (up_to-part (λ p. k + p) k (longer k cols) (longer_row n k t) longer-is m 1 0)
 
   one_of : (b : Bool) (q p : ℕ) → q < m → p < m → cond b q p < m
   one_of true q p h g = h
   one_of false q p h g = g
 
-  longer-in : (q p : ℕ) → q < m → p < m → longerRow n k t q p < m
-  unfolding longerRow
-  longer-in q p h g = one_of (ltb (magnitudeOf (normAt n k t p)) (magnitudeOf (normAt n k t q))) q p h g
+  longer-in : (q p : ℕ) → q < m → p < m → longer_row n k t q p < m
+  unfolding longer_row
+  longer-in q p h g = one_of (ltb (magnitude_of (norm_at n k t p)) (magnitude_of (norm_at n k t q))) q p h g
 
   place_in : place < m
-  unfolding longestOf
-  place_in = upTo-keeps (λ i p. p < m) (longerRow n k t) m longer-in 1 0 (omega arith) (omega arith)
+  unfolding longest_of
+  place_in = up_to-keeps (λ i p. p < m) (longer_row n k t) m longer-in 1 0 (omega arith) (omega arith)
 
   swap_is : drop k swap ≡ swapped 0 place (drop k cols)
   swap_is = ap (λ q. drop k (swapped k q cols)) best-is ∙ swap-past k place cols
@@ -132,46 +132,46 @@ module _ (n k : ℕ) (cols : List (List Float)) (wide : Wide n cols) (below : k 
   pub v-long : length v ≡ n
   v-long = reflector-long n k norm (item swap k) [] column-long below
 
-  rows-are-swapped : up_to n 0 (swapHead n place) t ≡ item swap k ++ flatten others
+  rows-are-swapped : up_to n 0 (swap_head n place) t ≡ item swap k ++ flatten others
   unfolding flatten
   rows-are-swapped =
       rows-swapped n place (drop k cols) (rw length-drop place_in) (wide-drop n k cols wide) ∙ ap flatten (sym swap_is ∙ swap-head)
 
-  pub norm-found : largestNorm n m k t ≡ norm
-  unfolding largestNorm
-  norm-found = norm-is place ∙ ap (normOf k cols) (sym best-is)
+  pub norm-found : largest_norm n m k t ≡ norm
+  unfolding largest_norm
+  norm-found = norm-is place ∙ ap (norm_of k cols) (sym best-is)
 
   pub begun-is : begun n m k t ≡ v ++ flatten others
-  unfolding begun reflectorAt
+  unfolding begun reflector_at
   begun-is = rw (norm-found, rows-are-swapped) (head-is n k norm (item swap k) (flatten others) column-long below)
 
-  pub square-is : norm2Of (take n (begun n m k t)) ≡ norm2Of v
-  square-is = ap norm2Of (ap (take n) begun-is ∙ take_at v (flatten others) n v-long)
+  pub square-is : norm2_of (take n (begun n m k t)) ≡ norm2_of v
+  square-is = ap norm2_of (ap (take n) begun-is ∙ take_at v (flatten others) n v-long)
 
-  pub turned-is : turned n m k t ≡ v ++ flatten (map (reflectOf v (norm2Of v)) others)
+  pub turned-is : turned n m k t ≡ v ++ flatten (map (reflect_of v (norm2_of v)) others)
   unfolding turned
   turned-is =
       let e : m ≡ suc (length others) = omega (arith, length-drop (suc k) swap, swap-long) in
-      rw (square-is, begun-is) (rw e (rows-reflected n v (norm2Of v) v-long others (wide-drop n (suc k) swap swap-wide)))
+      rw (square-is, begun-is) (rw e (rows-reflected n v (norm2_of v) v-long others (wide-drop n (suc k) swap swap-wide)))
 
   -- what the definition's turn leaves
   abbrev pub left : List (List Float)
-  left = reflectFrom k v (norm2Of v) swap
+  left = reflect_from k v (norm2_of v) swap
 
-  pub left_is : drop (k + 1) left ≡ map (reflectOf v (norm2Of v)) others
-  unfolding reflectFrom
+  pub left_is : drop (k + 1) left ≡ map (reflect_of v (norm2_of v)) others
+  unfolding reflect_from
   left_is =
       let e : length (take k swap) ≡ k = length-take-le k swap (omega (arith, swap-long)) in
-      rw swap-head (rw e at (drop-append-add (take k swap) (map (reflectOf v (norm2Of v)) (item swap k ∷ others)) 1))
+      rw swap-head (rw e at (drop-append-add (take k swap) (map (reflect_of v (norm2_of v)) (item swap k ∷ others)) 1))
 
   pub left-wide : Wide n left
-  unfolding reflectFrom
+  unfolding reflect_from
   left-wide =
-      let f : List Float → List Float = reflectOf v (norm2Of v) in
-      wide-append n (take k swap) (map f (drop k swap)) (wide-take n k swap swap-wide) (wide-map n f (λ c e. reflect-length v (norm2Of v) c (v-long ∙ sym e) ∙ e) (drop k swap) (wide-drop n k swap swap-wide))
+      let f : List Float → List Float = reflect_of v (norm2_of v) in
+      wide-append n (take k swap) (map f (drop k swap)) (wide-take n k swap swap-wide) (wide-map n f (λ c e. reflect-length v (norm2_of v) c (v-long ∙ sym e) ∙ e) (drop k swap) (wide-drop n k swap swap-wide))
 
   pub left-long : length left ≡ length cols
-  unfolding reflectFrom
+  unfolding reflect_from
   left-long =
-      let f : List Float → List Float = reflectOf v (norm2Of v) in
+      let f : List Float → List Float = reflect_of v (norm2_of v) in
       omega (arith, length-append (take k swap) (map f (drop k swap)), length-map (drop k swap) f, length-take-le k swap (omega (arith, swap-long)), length-drop k swap, swap-long)

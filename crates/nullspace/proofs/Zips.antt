@@ -12,11 +12,11 @@ use lib.ListN.{length, get_or, take, drop, set, length-append, length-drop, drop
 use lib.Seq.{length-take-le, take_all, take-suc, drop-cons, get_or_at, paste-suc}
 use lib.Ieee.{Float, nan}
 use Rattle.floats.specs.Ops.{◌⊕◌, ◌⊖◌, ◌⊗◌, zero⁻}
-use Rattle.loops.proofs.Keeps.{upTo-keeps}
+use Rattle.loops.proofs.Keeps.{up_to-keeps}
 use Rattle.loops.specs.Turns.{up_to, fold}
 use Rattle.loops.proofs.Turning.{fold-append}
-use Rattle.nullspace.specs.Steps.{dotOf}
-use Rattle.nullspace.specs.Layout.{addProduct, less_by}
+use Rattle.nullspace.specs.Steps.{dot_of}
+use Rattle.nullspace.specs.Layout.{add_product, less_by}
 
 abbrev pub mixed : ℕ → List Float → List Float → List Float
 mixed i l t = take i l ++ drop i t
@@ -52,17 +52,17 @@ module _ (n : ℕ) (v c : List Float) (long : length v ≡ n) (same : length c �
   products-long : length products ≡ n
   products-long = zip-long ◌⊗◌ v c (omega arith) ∙ long
 
-  one_more : (i : ℕ) (s : Float) → i < n → s ≡ fold ◌⊕◌ zero⁻ (take i products) → addProduct v c i s ≡ fold ◌⊕◌ zero⁻ (take (i + 1) products)
-  unfolding addProduct fold
-  one_more i s h e =
+  one-more : (i : ℕ) (s : Float) → i < n → s ≡ fold ◌⊕◌ zero⁻ (take i products) → add_product v c i s ≡ fold ◌⊕◌ zero⁻ (take (i + 1) products)
+  unfolding add_product fold
+  one-more i s h e =
       rw (e, ← zip_get ◌⊗◌ i v c (omega arith) (omega arith), add-one, take-suc products i nan (rw products-long h))
       (sym (fold-append ◌⊕◌ zero⁻ (take i products) (get_or products i nan ∷ [])))
 
-  pub zip-dot : up_to n 0 (addProduct v c) zero⁻ ≡ dotOf v c
-  unfolding dotOf fold
+  pub zip-dot : up_to n 0 (add_product v c) zero⁻ ≡ dot_of v c
+  unfolding dot_of fold
   zip-dot =
       let all : length products ≤ n = omega (arith, products-long) in
-      upTo-keeps (λ i s. s ≡ fold ◌⊕◌ zero⁻ (take i products)) (addProduct v c) n one_more 0 zero⁻ (omega arith) refl ∙ ap (fold ◌⊕◌ zero⁻) (take_all n products all)
+      up_to-keeps (λ i s. s ≡ fold ◌⊕◌ zero⁻ (take i products)) (add_product v c) n one-more 0 zero⁻ (omega arith) refl ∙ ap (fold ◌⊕◌ zero⁻) (take_all n products all)
 
   module _ (f : Float) where
     abbrev less : List Float
@@ -81,4 +81,4 @@ module _ (n : ℕ) (v c : List Float) (long : length v ≡ n) (same : length c �
     zip-less =
         let all : length less ≤ n = omega (arith, less-long) in
         let none : length c ≤ n = omega arith in
-        upTo-keeps (λ i s. s ≡ mixed i less c) (less_by v f) n one_less 0 c (omega arith) refl ∙ rw (take_all n less all, drop_of_length-le c none, append-nil)
+        up_to-keeps (λ i s. s ≡ mixed i less c) (less_by v f) n one_less 0 c (omega arith) refl ∙ rw (take_all n less all, drop_of_length-le c none, append-nil)

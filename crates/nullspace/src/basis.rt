@@ -1,7 +1,7 @@
 // The basis: each unit vector from the rank on, reflected by every reflector from the last to the first.
 ghost use Rattle.std.specs.Prelude.{◌++◌, ◌≡◌, ◌+◌, ◌-◌, ◌*◌, ◌≤◌, ◌<◌, length, drop, set, replicate};
 ghost use Rattle.floats.specs.Ops.{zero⁺, one};
-ghost use Rattle.nullspace.specs.Layout.{laidBasis, laidVector};
+ghost use Rattle.nullspace.specs.Layout.{laid_basis, laid_vector};
 
 use crate::reflect;
 
@@ -25,7 +25,7 @@ fn row_start(r: usize, n: usize, len: usize) -> usize
 
 fn reflected(e: &mut [f64], n: usize, v: &[f64], rank: usize, j: usize)
     requires { ((length e.old ≡ n) × (j < n)) × (rank * n ≤ length v.now) }
-    ensures { e.new ≡ laidVector n rank v.now j }
+    ensures { e.new ≡ laid_vector n rank v.now j }
 {
     unit(e, j);
     let mut r = rank;
@@ -40,7 +40,7 @@ fn reflected(e: &mut [f64], n: usize, v: &[f64], rank: usize, j: usize)
 // A vector of the basis, as it is handed out.
 fn vector(e: &mut [f64], n: usize, v: &[f64], rank: usize, j: usize)
     requires { ((length e.old ≡ n) × (j < n)) × (rank * n ≤ length v.now) }
-    ensures { e.new ≡ laidVector n rank v.now j }
+    ensures { e.new ≡ laid_vector n rank v.now j }
 {
     reflected(e, n, v, rank, j);
     floats::hand_out(e);
@@ -49,7 +49,7 @@ fn vector(e: &mut [f64], n: usize, v: &[f64], rank: usize, j: usize)
 // The vectors one after another at the head of `out`.
 pub(crate) fn vectors(out: &mut [f64], v: &[f64], n: usize, rank: usize)
     requires { ((rank ≤ n) × (n * n ≤ length out.old)) × (rank * n ≤ length v.now) }
-    ensures { out.new ≡ laidBasis n rank v.now ++ drop ((n - rank) * n) out.old }
+    ensures { out.new ≡ laid_basis n rank v.now ++ drop ((n - rank) * n) out.old }
 {
     for j in rank..n {
         let start = (j - rank) * n;

@@ -1,6 +1,9 @@
 // The null space of a bare matrix that lies in a lent slice row after row, after the Rust's solver.rs.
+
+#![tactic(auto)]
+
 ghost use Rattle.std.specs.Prelude.{◌++◌, ◌≡◌, ◌-◌, ◌*◌, ◌≤◌, length, drop};
-ghost use Rattle.nullspace.specs.Promise.{Spans, decomposedOf, vectors_of};
+ghost use Rattle.nullspace.specs.Promise.{Spans, decomposed_of, vectors_of};
 ghost use Rattle.nullspace.specs.Steps.{rank_of};
 
 mod basis;
@@ -48,7 +51,7 @@ pub fn null_space(m: &[f64], rows: usize, n: usize, work: &mut [f64], out: &mut 
 // The same with a working room of the very shape, which is left as the decomposition left it.
 fn span(m: &[f64], rows: usize, n: usize, work: &mut [f64], out: &mut [f64]) -> usize
     requires { (rows * n ≤ length m.now) × ((length work.old ≡ rows * n) × (n * n ≤ length out.old)) }
-    ensures { (result ≡ rank_of (decomposedOf rows n m.now)) × (out.new ≡ vectors_of rows n m.now ++ drop ((n - result) * n) out.old) }
+    ensures { (result ≡ rank_of (decomposed_of rows n m.now)) × (out.new ≡ vectors_of rows n m.now ++ drop ((n - result) * n) out.old) }
 {
     units::unit_rows(m, rows, n, work);
     let rank = qr::decompose(work, rows, n);

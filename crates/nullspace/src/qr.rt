@@ -4,7 +4,7 @@ ghost use Rattle.std.specs.Float.Ieee.{neg, le};
 ghost use Rattle.floats.specs.Ops.{zero⁺};
 ghost use Rattle.loops.specs.Turns.{up_to};
 ghost use Rattle.nullspace.specs.Steps.{away, ended};
-ghost use Rattle.nullspace.specs.Layout.{Decomposes, Measured, Turned, longerRow, longestOf, normAt, reflectorAt, swapHead};
+ghost use Rattle.nullspace.specs.Layout.{Decomposes, Measured, Turned, longer_row, longest_of, norm_at, reflector_at, swap_head};
 
 use crate::reflect;
 use loops::smaller;
@@ -19,7 +19,7 @@ struct Column {
 // What is left of column `j` from `k` on.
 fn norm_from(t: &[f64], n: usize, k: usize, j: usize) -> f64
     requires { (k < n) × (j * n + n ≤ length t.now) }
-    ensures { result ≡ normAt n k t.now j }
+    ensures { result ≡ norm_at n k t.now j }
 {
     let start = j * n + k;
     let end = j * n + n;
@@ -28,7 +28,7 @@ fn norm_from(t: &[f64], n: usize, k: usize, j: usize) -> f64
 
 fn longer(t: &[f64], n: usize, m: usize, k: usize, q: usize, p: Column) -> Column
     requires { ((k < n) × ((q < m) × (m * n ≤ length t.now))) × Measured n m k t.now p }
-    ensures { (result.row ≡ longerRow n k t.now q p.row) × Measured n m k t.now result }
+    ensures { (result.row ≡ longer_row n k t.now q p.row) × Measured n m k t.now result }
 {
     let norm = norm_from(t, n, k, q);
     if floats::magnitude(p.norm) < floats::magnitude(norm) {
@@ -41,7 +41,7 @@ fn longer(t: &[f64], n: usize, m: usize, k: usize, q: usize, p: Column) -> Colum
 // The column with the largest remaining norm, the lowest one on ties.
 fn longest(t: &[f64], n: usize, m: usize, k: usize) -> Column
     requires { ((k < n) × (0 < m)) × (m * n ≤ length t.now) }
-    ensures { (result.row ≡ longestOf n m k t.now) × Measured n m k t.now result }
+    ensures { (result.row ≡ longest_of n m k t.now) × Measured n m k t.now result }
 {
     let mut best = Column {
         row: 0,
@@ -65,7 +65,7 @@ fn is_ended(first: f64, norm: f64) -> bool
 
 fn swap_head(t: &mut [f64], n: usize, p: usize)
     requires { p * n + n ≤ length t.old }
-    ensures { t.new ≡ up_to n 0 (swapHead n p) t.old }
+    ensures { t.new ≡ up_to n 0 (swap_head n p) t.old }
 {
     for c in 0..n {
         floats::swap(t, p * n + c, c);
@@ -89,7 +89,7 @@ fn signed(x: f64, norm: f64) -> f64
 // Makes a reflector of the column `row`, and puts it first.
 fn make_reflector(t: &mut [f64], n: usize, k: usize, row: usize, norm: f64)
     requires { (k < n) × (row * n + n ≤ length t.old) }
-    ensures { t.new ≡ reflectorAt n k row norm t.old }
+    ensures { t.new ≡ reflector_at n k row norm t.old }
 {
     swap_head(t, n, row);
     floats::clear(&mut t[..k]);

@@ -1,14 +1,14 @@
 // `reflect`: on a row of the list whose first row is the reflector, and on a vector of its own.
 ghost use Rattle.std.specs.Prelude.{◌≡◌, ◌+◌, ◌*◌, ◌≤◌, length};
 ghost use Rattle.loops.specs.Turns.{up_to};
-ghost use Rattle.solver.specs.Steps.{lessPast};
-ghost use Rattle.solver.specs.Sums.{norm2Of};
-ghost use Rattle.nullspace.specs.Steps.{dotOf, lessAll, reflectOf};
-ghost use Rattle.nullspace.specs.Layout.{less_by, dotAt, lessRowAt, reflectAt, reflectedBy};
+ghost use Rattle.solver.specs.Steps.{less_past};
+ghost use Rattle.solver.specs.Sums.{norm2_of};
+ghost use Rattle.nullspace.specs.Steps.{dot_of, less_all, reflect_of};
+ghost use Rattle.nullspace.specs.Layout.{less_by, dot_at, less_row_at, reflect_at, reflected_by};
 
 fn dot_row(t: &[f64], n: usize, j: usize) -> f64
     requires { j * n + n ≤ length t.now }
-    ensures { result ≡ dotAt n j t.now }
+    ensures { result ≡ dot_at n j t.now }
 {
     let mut s = -0.0;
     for i in 0..n {
@@ -19,7 +19,7 @@ fn dot_row(t: &[f64], n: usize, j: usize) -> f64
 
 fn less_past(t: &mut [f64], n: usize, off: usize, f: f64)
     requires { off + n ≤ length t.old }
-    ensures { t.new ≡ up_to n 0 (lessPast off f) t.old }
+    ensures { t.new ≡ up_to n 0 (less_past off f) t.old }
 {
     for i in 0..n {
         t[off + i] = t[off + i] - f * t[i];
@@ -28,7 +28,7 @@ fn less_past(t: &mut [f64], n: usize, off: usize, f: f64)
 
 fn less_row(t: &mut [f64], n: usize, j: usize, f: f64)
     requires { j * n + n ≤ length t.old }
-    ensures { t.new ≡ lessRowAt n j f t.old }
+    ensures { t.new ≡ less_row_at n j f t.old }
 {
     if f != 0.0 {
         less_past(t, n, j * n, f);
@@ -37,7 +37,7 @@ fn less_row(t: &mut [f64], n: usize, j: usize, f: f64)
 
 fn reflect_row(t: &mut [f64], n: usize, vv: f64, j: usize)
     requires { j * n + n ≤ length t.old }
-    ensures { t.new ≡ reflectAt n vv j t.old }
+    ensures { t.new ≡ reflect_at n vv j t.old }
 {
     let f = 2.0 * dot_row(t, n, j) / vv;
     less_row(t, n, j, f);
@@ -46,7 +46,7 @@ fn reflect_row(t: &mut [f64], n: usize, vv: f64, j: usize)
 // Each of the `m` rows but the first, which is the reflector.
 pub(crate) fn reflect_rows(t: &mut [f64], n: usize, m: usize, vv: f64)
     requires { m * n ≤ length t.old }
-    ensures { t.new ≡ reflectedBy n m vv t.old }
+    ensures { t.new ≡ reflected_by n m vv t.old }
 {
     for j in 1..m {
         reflect_row(t, n, vv, j);
@@ -62,7 +62,7 @@ struct Sums {
 
 fn products(v: &[f64], n: usize, c: &[f64]) -> Sums
     requires { (length v.now ≡ n) × (length c.now ≡ n) }
-    ensures { (result.dot ≡ dotOf v.now c.now) × (result.norm ≡ norm2Of v.now) }
+    ensures { (result.dot ≡ dot_of v.now c.now) × (result.norm ≡ norm2_of v.now) }
 {
     let mut dot = -0.0;
     let mut norm = -0.0;
@@ -84,7 +84,7 @@ fn less_by(v: &[f64], n: usize, f: f64, c: &mut [f64])
 
 fn less_all(v: &[f64], n: usize, f: f64, c: &mut [f64])
     requires { (length v.now ≡ n) × (length c.old ≡ n) }
-    ensures { c.new ≡ lessAll v.now f c.old }
+    ensures { c.new ≡ less_all v.now f c.old }
 {
     if f != 0.0 {
         less_by(v, n, f, c);
@@ -93,7 +93,7 @@ fn less_all(v: &[f64], n: usize, f: f64, c: &mut [f64])
 
 pub(crate) fn reflect(v: &[f64], n: usize, c: &mut [f64])
     requires { (length v.now ≡ n) × (length c.old ≡ n) }
-    ensures { c.new ≡ reflectOf v.now (norm2Of v.now) c.old }
+    ensures { c.new ≡ reflect_of v.now (norm2_of v.now) c.old }
 {
     let p = products(v, n, c);
     less_all(v, n, 2.0 * p.dot / p.norm, c);

@@ -1,8 +1,8 @@
 // The rows of the matrix, each scaled to unit length.
 ghost use Rattle.std.specs.Prelude.{map, ◌≡◌, ◌*◌, ◌≤◌, length};
 ghost use Rattle.floats.specs.Ops.{◌⊘◌};
-ghost use Rattle.nullspace.specs.Steps.{scaledBy, unit_of};
-ghost use Rattle.nullspace.specs.Layout.{unitRows};
+ghost use Rattle.nullspace.specs.Steps.{scaled_by, unit_of};
+ghost use Rattle.nullspace.specs.Layout.{unit_rows};
 
 fn divide(row: &[f64], len: f64, to: &mut [f64])
     requires { length to.old ≡ length row.now }
@@ -25,7 +25,7 @@ fn copy(row: &[f64], to: &mut [f64])
 // Only a length above zero divides.
 fn scale(row: &[f64], len: f64, to: &mut [f64])
     requires { length to.old ≡ length row.now }
-    ensures { to.new ≡ scaledBy len row.now }
+    ensures { to.new ≡ scaled_by len row.now }
 {
     if len > 0.0 {
         divide(row, len, to);
@@ -43,7 +43,7 @@ fn unit_row(row: &[f64], to: &mut [f64])
 
 pub(crate) fn unit_rows(m: &[f64], rows: usize, n: usize, w: &mut [f64])
     requires { (rows * n ≤ length m.now) × (length w.old ≡ rows * n) }
-    ensures { w.new ≡ unitRows rows n m.now }
+    ensures { w.new ≡ unit_rows rows n m.now }
 {
     for i in 0..rows {
         let start = i * n;

@@ -4,13 +4,13 @@ use Rattle.std.specs.Prelude.{cond, List, [], ◌∷◌, ℕ}
 use Rattle.loops.specs.Turns.{fold}
 use Rattle.sketch.specs.declared.Kind.{Kind}
 use Rattle.spelling.specs.Letters.{ascii}
-use Rattle.spelling.specs.Places.{eatOf}
+use Rattle.spelling.specs.Places.{eat_of}
 use Rattle.spelling.specs.declared.Cursor.{Cursor}
 use Rattle.phrases.specs.declared.KindRead.{KindRead}
 
 -- past the word w
 abbrev pub word_at : List ℕ → Cursor → List ℕ → Cursor
-word_at s c w = fold (eatOf s) c w
+word_at s c w = fold (eat_of s) c w
 
 abbrev pub name_of : Kind → List ℕ
 name_of Kind.Coincident = ascii "coincident"
@@ -36,17 +36,17 @@ name_of Kind.ArcMidpoint = ascii "arcmidpoint"
 name_of Kind.Symmetric = ascii "symmetric"
 
 -- what was found already, or else the kind with the name w
-unfoldable pub orNamed : List ℕ → Cursor → KindRead → List ℕ → Kind → KindRead
-orNamed s c found w kind = cond found.next.ok found (record { kind = kind; next = word_at s c w })
+unfoldable pub or_named : List ℕ → Cursor → KindRead → List ℕ → Kind → KindRead
+or_named s c found w kind = cond found.next.ok found (record { kind = kind; next = word_at s c w })
 
 -- every kind in turn
 unfoldable pub trying : List ℕ → Cursor → KindRead → List Kind → KindRead
 trying s c found [] = found
-trying s c found (k ∷ l) = trying s c (orNamed s c found (name_of k) k) l
+trying s c found (k ∷ l) = trying s c (or_named s c found (name_of k) k) l
 
-abbrev pub otherKinds : List Kind
-otherKinds =
+abbrev pub other_kinds : List Kind
+other_kinds =
     Kind.Level ∷ Kind.Parallel ∷ Kind.Perpendicular ∷ Kind.Collinear ∷ Kind.EqualRadius ∷ Kind.Equal ∷ Kind.Held ∷ Kind.Distance ∷ Kind.AxisDistance ∷ Kind.Length ∷ Kind.PointLine ∷ Kind.ArcEnds ∷ Kind.Radius ∷ Kind.LineCircle ∷ Kind.CircleCircle ∷ Kind.LineArcAt ∷ Kind.ArcArcAt ∷ Kind.Midpoint ∷ Kind.ArcMidpoint ∷ Kind.Symmetric ∷ []
 
 abbrev pub kind_at : List ℕ → Cursor → KindRead
-kind_at s c = trying s c (record { kind = Kind.Coincident; next = word_at s c (name_of Kind.Coincident) }) otherKinds
+kind_at s c = trying s c (record { kind = Kind.Coincident; next = word_at s c (name_of Kind.Coincident) }) other_kinds

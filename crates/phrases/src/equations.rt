@@ -1,6 +1,6 @@
 // An equation: its kind's name, and the fields of that kind.
 ghost use Rattle.std.specs.Prelude.{◌≡◌};
-ghost use Rattle.phrases.specs.Equations.{equationAt};
+ghost use Rattle.phrases.specs.Equations.{equation_at};
 
 use crate::EquationRead;
 use crate::kinds::kind;
@@ -10,7 +10,7 @@ use crate::table::of_kind;
 use spelling::Cursor;
 
 pub fn equation(s: &[u8], c: Cursor) -> EquationRead
-    ensures { result ≡ equationAt s.now c }
+    ensures { result ≡ equation_at s.now c }
 {
     let named = kind(s, c);
     let k = named.kind;

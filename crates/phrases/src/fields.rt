@@ -1,6 +1,6 @@
 // The fields of equations and measures, each with the comma in front of it.
 ghost use Rattle.std.specs.Prelude.{◌≡◌};
-ghost use Rattle.phrases.specs.Fields.{number_at, axisAt, value_at, sideAt, radAt, contactAt, vecAt};
+ghost use Rattle.phrases.specs.Fields.{number_at, axis_at, value_at, side_at, rad_at, contact_at, vec_at};
 
 use crate::operands::holding;
 use crate::{OperandRead, VecRead};
@@ -21,7 +21,7 @@ pub(crate) fn value(s: &[u8], c: Cursor) -> FloatRead
 }
 
 pub(crate) fn axis(s: &[u8], c: Cursor) -> WholeRead
-    ensures { result ≡ axisAt s.now c }
+    ensures { result ≡ axis_at s.now c }
 {
     let x = word(s, c, b",x");
     if x.ok {
@@ -34,7 +34,7 @@ pub(crate) fn axis(s: &[u8], c: Cursor) -> WholeRead
 }
 
 pub(crate) fn side(s: &[u8], c: Cursor) -> FloatRead
-    ensures { result ≡ sideAt s.now c }
+    ensures { result ≡ side_at s.now c }
 {
     let plus = word(s, c, b",+");
     if plus.ok {
@@ -50,7 +50,7 @@ pub(crate) fn side(s: &[u8], c: Cursor) -> FloatRead
 }
 
 pub(crate) fn rad(s: &[u8], c: Cursor) -> OperandRead
-    ensures { result ≡ radAt s.now c }
+    ensures { result ≡ rad_at s.now c }
 {
     let by_point = word(s, c, b",p");
     if by_point.ok {
@@ -62,7 +62,7 @@ pub(crate) fn rad(s: &[u8], c: Cursor) -> OperandRead
 }
 
 pub(crate) fn contact(s: &[u8], c: Cursor) -> OperandRead
-    ensures { result ≡ contactAt s.now c }
+    ensures { result ≡ contact_at s.now c }
 {
     let outside = word(s, c, b",o");
     if outside.ok {
@@ -74,7 +74,7 @@ pub(crate) fn contact(s: &[u8], c: Cursor) -> OperandRead
 
 // Two floats; in front of the first there is no comma.
 pub fn vec(s: &[u8], c: Cursor) -> VecRead
-    ensures { result ≡ vecAt s.now c }
+    ensures { result ≡ vec_at s.now c }
 {
     let x = float(s, c);
     let y = value(s, x.next);

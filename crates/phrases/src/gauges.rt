@@ -1,6 +1,6 @@
 // A measure: the name of a kind that is measured, and the fields of that kind without the value.
 ghost use Rattle.std.specs.Prelude.{◌≡◌};
-ghost use Rattle.phrases.specs.Measures.{gaugedAt, measureAt};
+ghost use Rattle.phrases.specs.Measures.{gauged_at, measure_at};
 
 use crate::MeasureRead;
 use crate::made::measure_of;
@@ -10,7 +10,7 @@ use sketch::Gauge;
 use spelling::{Cursor, word};
 
 fn gauged(s: &[u8], g: Gauge, c: Cursor) -> MeasureRead
-    ensures { result ≡ gaugedAt s.now g c }
+    ensures { result ≡ gauged_at s.now g c }
 {
     let read = fields(s, of_gauge(g), c);
     let operands = read.operands;
@@ -23,7 +23,7 @@ fn gauged(s: &[u8], g: Gauge, c: Cursor) -> MeasureRead
 
 // The names tried in turn; none begins with another.
 pub fn measure(s: &[u8], c: Cursor) -> MeasureRead
-    ensures { result ≡ measureAt s.now c }
+    ensures { result ≡ measure_at s.now c }
 {
     let named = word(s, c, b"distance");
     if named.ok {

@@ -1,6 +1,6 @@
 // The kinds of equations by their names: the Rust's, in small letters.
 ghost use Rattle.std.specs.Prelude.{◌≡◌};
-ghost use Rattle.phrases.specs.Kinds.{orNamed, kind_at};
+ghost use Rattle.phrases.specs.Kinds.{or_named, kind_at};
 
 use crate::KindRead;
 use sketch::Kind;
@@ -8,7 +8,7 @@ use spelling::{Cursor, word};
 
 // What was found already, or else the kind with the name w.
 fn or_named(s: &[u8], c: Cursor, found: KindRead, w: &[u8], kind: Kind) -> KindRead
-    ensures { result ≡ orNamed s.now c found w.now kind }
+    ensures { result ≡ or_named s.now c found w.now kind }
 {
     if found.next.ok {
         let kind = found.kind;

@@ -1,5 +1,8 @@
 // The phrases of a job's text: its numbers, floats and other fields, and the equations and measures that are made of them
 // (document 01, "The text"). Each reading takes a place and gives the next, which is spoilt where the reading fails.
+
+#![tactic(auto)]
+
 mod equations;
 mod fields;
 mod gauges;

@@ -1,11 +1,11 @@
 // What is made of a kind and of what stands in its fields.
 ghost use Rattle.std.specs.Prelude.{◌≡◌};
-ghost use Rattle.sketch.specs.Made.{radIn, contactIn, equationOf, measureOf};
+ghost use Rattle.sketch.specs.Made.{rad_in, contact_in, equation_of, measure_of};
 
 use sketch::{Contact, Equation, Gauge, Kind, LineNo, Measure, Operand, PointNo, Rad};
 
 fn rad_of(o: Operand) -> Rad
-    ensures { result ≡ radIn o }
+    ensures { result ≡ rad_in o }
 {
     if o.bare == 1 {
         Rad::Point(PointNo(o.number))
@@ -15,7 +15,7 @@ fn rad_of(o: Operand) -> Rad
 }
 
 fn contact_of(o: Operand) -> Contact
-    ensures { result ≡ contactIn o }
+    ensures { result ≡ contact_in o }
 {
     if o.bare == 1 {
         Contact::Outside
@@ -26,7 +26,7 @@ fn contact_of(o: Operand) -> Contact
 
 // A point or a line at each place where some kind has one.
 pub(crate) fn equation_of(kind: Kind, f: [Operand; 5]) -> Equation
-    ensures { result ≡ equationOf kind f }
+    ensures { result ≡ equation_of kind f }
 {
     let a = f[0];
     let b = f[1];
@@ -66,7 +66,7 @@ pub(crate) fn equation_of(kind: Kind, f: [Operand; 5]) -> Equation
 }
 
 pub(crate) fn measure_of(gauge: Gauge, f: [Operand; 5]) -> Measure
-    ensures { result ≡ measureOf gauge f }
+    ensures { result ≡ measure_of gauge f }
 {
     let a = f[0];
     let b = f[1];

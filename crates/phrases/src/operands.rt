@@ -1,7 +1,7 @@
 // What stands in the fields of an equation or of a measure, by their sorts.
 ghost use Rattle.std.specs.Prelude.{◌≡◌, ◌∷◌, []};
 ghost use Rattle.sketch.specs.Made as Made;
-ghost use Rattle.phrases.specs.Fields.{byNumber, byValue, operand_at, sortsOf, fields_at};
+ghost use Rattle.phrases.specs.Fields.{by_number, by_value, operand_at, sorts_of, fields_at};
 
 use crate::fields::{axis, contact, number, rad, side, value};
 use crate::{FieldsRead, OperandRead, Sorts};
@@ -26,13 +26,13 @@ pub(crate) fn holding(number: usize, value: f64, bare: usize, next: Cursor) -> O
 }
 
 fn by_number(n: WholeRead) -> OperandRead
-    ensures { result ≡ byNumber n }
+    ensures { result ≡ by_number n }
 {
     holding(n.value, 0.0, 0, n.next)
 }
 
 fn by_value(v: FloatRead) -> OperandRead
-    ensures { result ≡ byValue v }
+    ensures { result ≡ by_value v }
 {
     holding(0, v.value, 0, v.next)
 }
@@ -67,7 +67,7 @@ fn five(a: Operand, b: Operand, d: Operand, e: Operand, f: Operand, next: Cursor
 
 // The fields one after another, at most five; the places past them are blank.
 pub(crate) fn fields(s: &[u8], l: Sorts, c: Cursor) -> FieldsRead
-    ensures { result ≡ fields_at s.now (sortsOf l) c }
+    ensures { result ≡ fields_at s.now (sorts_of l) c }
 {
     let none = Operand {
         number: 0,

@@ -1,13 +1,13 @@
 // The sorts of the fields of each kind, in the Rust's order.
 ghost use Rattle.std.specs.Prelude.{◌≡◌};
-ghost use Rattle.sketch.specs.Kinds.{fields_of, measuredFields};
-ghost use Rattle.phrases.specs.Fields.{sortsOf};
+ghost use Rattle.sketch.specs.Kinds.{fields_of, measured_fields};
+ghost use Rattle.phrases.specs.Fields.{sorts_of};
 
 use crate::Sorts;
 use sketch::{Gauge, Kind, Sort};
 
 pub(crate) fn of_kind(k: Kind) -> Sorts
-    ensures { sortsOf result ≡ fields_of k }
+    ensures { sorts_of result ≡ fields_of k }
 {
     match k {
         Kind::Coincident => Sorts::Two(Sort::Point, Sort::Point),
@@ -48,7 +48,7 @@ pub(crate) fn of_kind(k: Kind) -> Sorts
 
 // Measures omit the value.
 pub(crate) fn of_gauge(g: Gauge) -> Sorts
-    ensures { sortsOf result ≡ measuredFields g }
+    ensures { sorts_of result ≡ measured_fields g }
 {
     match g {
         Gauge::Distance => Sorts::Two(Sort::Point, Sort::Point),

@@ -1,7 +1,10 @@
 // Points, vectors and directions of the plane, by value, as the last lines of equations.rs have them. Nothing is refused:
 // a zero length gives NaN or infinite directions.
+
+#![tactic(auto)]
+
 ghost use Rattle.std.specs.Prelude.{◌≡◌};
-ghost use Rattle.plane.specs.Vectors.{subOf, neg_of, dotOf, cross_of, normOf, unitFromOf, acrossOf, inUnits};
+ghost use Rattle.plane.specs.Vectors.{sub_of, neg_of, dot_of, cross_of, norm_of, unit_from_of, across_of, in_units};
 
 #[derive(Drop)]
 pub struct Vec2 {
@@ -17,7 +20,7 @@ pub struct Dir {
 }
 
 pub fn sub(a: Vec2, b: Vec2) -> Vec2
-    ensures { result ≡ subOf a b }
+    ensures { result ≡ sub_of a b }
 {
     Vec2 {
         x: a.x - b.x,
@@ -32,7 +35,7 @@ pub fn neg(a: Vec2) -> Vec2
 }
 
 pub fn dot(a: Vec2, b: Vec2) -> f64
-    ensures { result ≡ dotOf a b }
+    ensures { result ≡ dot_of a b }
 {
     a.x * b.x + a.y * b.y
 }
@@ -44,14 +47,14 @@ pub fn cross(a: Vec2, b: Vec2) -> f64
 }
 
 pub fn norm(a: Vec2) -> f64
-    ensures { result ≡ normOf a }
+    ensures { result ≡ norm_of a }
 {
     root::sqrt(dot(a, a))
 }
 
 // The unit vector from a to b, and the distance.
 pub fn unit_from(a: Vec2, b: Vec2) -> Dir
-    ensures { result ≡ unitFromOf a b }
+    ensures { result ≡ unit_from_of a b }
 {
     let d = sub(b, a);
     let len = norm(d);
@@ -67,7 +70,7 @@ pub fn unit_from(a: Vec2, b: Vec2) -> Dir
 // The gradient with respect to the far end of a unit vector w of a difference of length len, given the gradient gw with
 // respect to w.
 pub fn across(w: Vec2, gw: Vec2, len: f64) -> Vec2
-    ensures { result ≡ acrossOf w gw len }
+    ensures { result ≡ across_of w gw len }
 {
     let k = dot(gw, w);
     Vec2 {
@@ -78,7 +81,7 @@ pub fn across(w: Vec2, gw: Vec2, len: f64) -> Vec2
 
 // q in units of size from the centre: one difference and one quotient for each coordinate.
 pub fn in_units(centre: Vec2, size: f64, q: Vec2) -> Vec2
-    ensures { result ≡ inUnits centre size q }
+    ensures { result ≡ in_units centre size q }
 {
     Vec2 {
         x: (q.x - centre.x) / size,

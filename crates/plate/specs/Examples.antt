@@ -4,24 +4,24 @@ use Rattle.std.specs.Prelude.{false, ◌≡◌, refl, Float}
 use mathlib.Core.List.{List, [], ◌∷◌, flat_map}
 use Rattle.std.specs.Float.{inf, binary64}
 use Rattle.std.specs.Float.Ieee.{of_bits, add, sub, mul, div, neg, lt, is_nan}
-use Rattle.floats.specs.Largest.{largerAbs, maxAbsOf}
+use Rattle.floats.specs.Largest.{larger_abs, max_abs_of}
 use Rattle.floats.specs.Magnitude.{max_of}
 use Rattle.floats.specs.Ops.{zero⁺, one, two}
 use Rattle.loops.specs.Turns.{turns, up_to, fold}
-use Rattle.plane.specs.Vectors.{normOf, unitFromOf}
-use Rattle.root.specs.Root.{sqrtOf}
-use Rattle.rows.specs.Kinds.{rowsOfEquation, coincidentOf, parallelOf}
+use Rattle.plane.specs.Vectors.{norm_of, unit_from_of}
+use Rattle.root.specs.Root.{sqrt_of}
+use Rattle.rows.specs.Kinds.{rows_of_equation, coincident_of, parallel_of}
 use Rattle.rows.specs.Located.{at_of}
-use Rattle.sketch.specs.Blank.{blankPoint, sample}
+use Rattle.sketch.specs.Blank.{blank_point, sample}
 use Rattle.sketch.specs.declared.Build.{Build}
 use Rattle.sketch.specs.declared.Equation.{Equation}
-use Rattle.plate.specs.Scale.{scale_at, allScaledOf, selfAt}
-use Rattle.plate.specs.Worst.{residualsOf, worstOf}
+use Rattle.plate.specs.Scale.{scale_at, all_scaled_of, self_at}
+use Rattle.plate.specs.Worst.{residuals_of, worst_of}
 
 -- two points, and the line between them
 abbrev build : Equation → Build
 build e =
-    sample (record { x = one; y = one }) two (blankPoint ∷ blankPoint ∷ []) (record { from = record { 0 = 0 }; to = record { 0 = 1 } } ∷ [])
+    sample (record { x = one; y = one }) two (blank_point ∷ blank_point ∷ []) (record { from = record { 0 = 0 }; to = record { 0 = 1 } } ∷ [])
     (record { equation = e } ∷ []) []
 
 abbrev 5·0 : Float
@@ -30,16 +30,16 @@ abbrev 5·0 : Float
 abbrev 9·0 : Float
 9·0 = of_bits binary64 0x4022_0000_0000_0000
 
-pub no_row : (points : List Float) → worstOf (build Equation.Held) points ≡ zero⁺
-unfolding worstOf residualsOf maxAbsOf fold flat_map rowsOfEquation
+pub no_row : (points : List Float) → worst_of (build Equation.Held) points ≡ zero⁺
+unfolding worst_of residuals_of max_abs_of fold flat_map rows_of_equation
 no_row points = refl
 
 -- (1, 5) and (2, 9) lie half a unit apart along x and two along y
-pub second-row : worstOf (build (Equation.Coincident (record { 0 = 0 }) (record { 0 = 1 }))) (one ∷ 5·0 ∷ two ∷ 9·0 ∷ []) ≡ two
-unfolding turns up_to fold flat_map residualsOf worstOf maxAbsOf largerAbs max_of rowsOfEquation coincidentOf at_of scale_at allScaledOf selfAt of_bits add sub mul div neg lt is_nan
+pub second-row : worst_of (build (Equation.Coincident (record { 0 = 0 }) (record { 0 = 1 }))) (one ∷ 5·0 ∷ two ∷ 9·0 ∷ []) ≡ two
+unfolding turns up_to fold flat_map residuals_of worst_of max_abs_of larger_abs max_of rows_of_equation coincident_of at_of scale_at all_scaled_of self_at of_bits add sub mul div neg lt is_nan
 second-row = refl
 
 -- the line has no direction, so whether it is parallel to itself is not a number
-pub not_finite : worstOf (build (Equation.Parallel (record { 0 = 0 }) (record { 0 = 0 }))) (one ∷ one ∷ one ∷ one ∷ []) ≡ inf false
-unfolding turns up_to fold flat_map residualsOf worstOf maxAbsOf largerAbs max_of rowsOfEquation parallelOf unitFromOf normOf sqrtOf at_of scale_at allScaledOf selfAt of_bits add sub mul div neg lt is_nan
-not_finite = refl
+pub not-finite : worst_of (build (Equation.Parallel (record { 0 = 0 }) (record { 0 = 0 }))) (one ∷ one ∷ one ∷ one ∷ []) ≡ inf false
+unfolding turns up_to fold flat_map residuals_of worst_of max_abs_of larger_abs max_of rows_of_equation parallel_of unit_from_of norm_of sqrt_of at_of scale_at all_scaled_of self_at of_bits add sub mul div neg lt is_nan
+not-finite = refl

@@ -1,4 +1,7 @@
 // What the equations of a build come to at given points (equations.rs, `residuals`), whoever worked the points out. Nothing here fits.
+
+#![tactic(auto)]
+
 mod scale;
 mod sweep;
 

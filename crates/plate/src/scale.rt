@@ -1,6 +1,6 @@
 // The points in the coordinates of the equations, and where each of them stands there.
 ghost use Rattle.std.specs.Prelude.{◌≡◌, ◌<◌, min};
-ghost use Rattle.plate.specs.Scale.{scale_at, allScaledOf, inOrder};
+ghost use Rattle.plate.specs.Scale.{scale_at, all_scaled_of, in_order};
 
 use loops::smaller;
 use plane::Vec2;
@@ -22,7 +22,7 @@ fn scale(x: &mut [f64], p: usize, centre: Vec2, size: f64, points: &[f64])
 
 // The first n points, and at most 40.
 pub fn scaled(centre: Vec2, size: f64, points: &[f64], n: usize) -> [f64; 80]
-    ensures { result ≡ allScaledOf centre size (min n 40) points.now }
+    ensures { result ≡ all_scaled_of centre size (min n 40) points.now }
 {
     let k = smaller(n, 40);
     let mut x = [0.0; 80];
@@ -34,7 +34,7 @@ pub fn scaled(centre: Vec2, size: f64, points: &[f64], n: usize) -> [f64; 80]
 
 // All points are in the one group, so each stands at its own number.
 pub fn in_order() -> [u8; 40]
-    ensures { result ≡ inOrder }
+    ensures { result ≡ in_order }
 {
     let mut places = [0; 40];
     for p in 0..40 {

@@ -1,9 +1,9 @@
 // The largest residual magnitude of the equations.
 ghost use Rattle.std.specs.Prelude.{◌≡◌, take};
-ghost use Rattle.floats.specs.Largest.{maxAbsOf};
-ghost use Rattle.plate.specs.Inside.{largerHeld};
-ghost use Rattle.plate.specs.Worst.{residualsOf, worstOf};
-ghost use Rattle.rows.specs.Ends.{rowsGiven};
+ghost use Rattle.floats.specs.Largest.{max_abs_of};
+ghost use Rattle.plate.specs.Inside.{larger_held};
+ghost use Rattle.plate.specs.Worst.{residuals_of, worst_of};
+ghost use Rattle.rows.specs.Ends.{rows_given};
 ghost use Rattle.rows.specs.Entries.{values_of};
 ghost use Rattle.rows.specs.Located.{at_of};
 
@@ -15,7 +15,7 @@ use sketch::{Active, Build, Equation, Line};
 
 // The larger of m and the residual magnitudes of an equation.
 fn larger_of(m: f64, e: Equation, ends: Ends, places: &[u8], x: &[f64]) -> f64
-    ensures { result ≡ largerHeld m (values_of (rowsGiven ends (at_of places.now x.now) e)) }
+    ensures { result ≡ larger_held m (values_of (rows_given ends (at_of places.now x.now) e)) }
 {
     let v = rows::values(e, ends, places, x);
     if v.count == 0 {
@@ -30,7 +30,7 @@ fn larger_of(m: f64, e: Equation, ends: Ends, places: &[u8], x: &[f64]) -> f64
 
 // Of the first n equations, and at most 40.
 fn largest(equations: [Active; 40], n: usize, lines: [Line; 40], places: &[u8], x: &[f64]) -> f64
-    ensures { result ≡ maxAbsOf (residualsOf lines (at_of places.now x.now) (take n equations)) }
+    ensures { result ≡ max_abs_of (residuals_of lines (at_of places.now x.now) (take n equations)) }
 {
     let k = smaller(n, 40);
     let mut m = 0.0;
@@ -49,7 +49,7 @@ fn largest(equations: [Active; 40], n: usize, lines: [Line; 40], places: &[u8], 
 
 // The largest residual magnitude of a build's equations at the points x, y, x, y, .., infinite where a residual is not finite.
 pub fn worst(b: Build, points: &[f64]) -> f64
-    ensures { result ≡ worstOf b points.now }
+    ensures { result ≡ worst_of b points.now }
 {
     let n = smaller(b.point_count, 40);
     let centre = b.centre;

@@ -9,9 +9,9 @@ use lib.Dec.{leb}
 use lib.ListN.{length}
 use Rattle.loops.proofs.Picks.{both}
 use Rattle.spelling.specs.declared.Cursor.{Cursor}
-use Rattle.replay.specs.Judged.{sameBytes, answered}
-use Rattle.replay.specs.Records.{Within, part, placed, recordAt}
-use Rattle.replay.specs.Counted.{oneMore, countedOf, judgedOf, turn_of}
+use Rattle.replay.specs.Judged.{same_bytes, answered}
+use Rattle.replay.specs.Records.{Within, part, placed, record_at}
+use Rattle.replay.specs.Counted.{one_more, counted_of, judged_of, turn_of}
 use Rattle.replay.specs.declared.tally.Tally.{Tally}
 use Rattle.replay.specs.declared.records.Record.{Record}
 
@@ -49,27 +49,27 @@ module _ (len : ℕ) (c : Cursor) (n m : ℕ) where
   placed-within h = chosen (c.ok && leb (c.at + n + m) len) refl h
 
 -- a record that is found is within the pack
-pub found_within : (s : List ℕ) (at : ℕ) (r : Record) → r ≡ recordAt s at → r.found ≡ true → Within r (length s)
-unfolding recordAt
+pub found_within : (s : List ℕ) (at : ℕ) (r : Record) → r ≡ record_at s at → r.found ≡ true → Within r (length s)
+unfolding record_at
 found_within s at r e h = rw e (placed-within (length s) _ _ _ (rw e at h))
 
 module _ (t : Tally) (e : ℕ) (same : Bool) (n : ℕ) where
-  pub counted_same : same ≡ true → n ≡ oneMore t.same → record { at = e; same = n; differ = t.differ } ≡ countedOf t e same
-  unfolding countedOf
+  pub counted_same : same ≡ true → n ≡ one_more t.same → record { at = e; same = n; differ = t.differ } ≡ counted_of t e same
+  unfolding counted_of
   counted_same h q = rw (h, q)
 
-  pub counted-differ : same ≡ false → n ≡ oneMore t.differ → record { at = e; same = t.same; differ = n } ≡ countedOf t e same
-  unfolding countedOf
+  pub counted-differ : same ≡ false → n ≡ one_more t.differ → record { at = e; same = t.same; differ = n } ≡ counted_of t e same
+  unfolding counted_of
   counted-differ h q = rw (h, q)
 
-pub judged-record : (s : List ℕ) (r : Record) (t u : Tally) (same : Bool) → same ≡ sameBytes (answered (part s r.text r.reply)) (part s r.reply r.end)
-    → u ≡ countedOf t r.end same → u ≡ judgedOf s r t
-unfolding judgedOf
+pub judged-record : (s : List ℕ) (r : Record) (t u : Tally) (same : Bool) → same ≡ same_bytes (answered (part s r.text r.reply)) (part s r.reply r.end)
+    → u ≡ counted_of t r.end same → u ≡ judged_of s r t
+unfolding judged_of
 judged-record s r t u same h e = rw h at e
 
-module _ (s : List ℕ) (i : ℕ) (t : Tally) (r : Record) (q : r ≡ recordAt s t.at) where
-  pub turn-found : (u : Tally) → r.found ≡ true → u ≡ judgedOf s r t → u ≡ turn_of s i t
-  unfolding turn_of judgedOf
+module _ (s : List ℕ) (i : ℕ) (t : Tally) (r : Record) (q : r ≡ record_at s t.at) where
+  pub turn-found : (u : Tally) → r.found ≡ true → u ≡ judged_of s r t → u ≡ turn_of s i t
+  unfolding turn_of judged_of
   turn-found u h e = rw (← q, h) e
 
   pub turn-none : r.found ≡ false → t ≡ turn_of s i t

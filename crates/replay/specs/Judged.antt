@@ -2,7 +2,7 @@
 -- `same-sound`, `same-itself` (proofs/Same.antt).
 use Rattle.std.specs.Prelude.{Bool, true, false, ◌&&◌, List, [], ◌∷◌, ℕ, eqb, Float, replicate}
 use Rattle.floats.specs.Ops.{zero⁺}
-use Rattle.run.specs.Promise.{replyTo}
+use Rattle.run.specs.Promise.{reply_to}
 
 -- a work area
 abbrev pub area : List Float
@@ -10,10 +10,10 @@ area = replicate 6400 zero⁺
 
 -- the reply to a job's text
 unfoldable pub answered : List ℕ → List ℕ
-answered text = replyTo area area area text
+answered text = reply_to area area area text
 
-unfoldable pub sameBytes : List ℕ → List ℕ → Bool
-sameBytes [] [] = true
-sameBytes [] (y ∷ b) = false
-sameBytes (x ∷ a) [] = false
-sameBytes (x ∷ a) (y ∷ b) = eqb x y && sameBytes a b
+unfoldable pub same_bytes : List ℕ → List ℕ → Bool
+same_bytes [] [] = true
+same_bytes [] (y ∷ b) = false
+same_bytes (x ∷ a) [] = false
+same_bytes (x ∷ a) (y ∷ b) = eqb x y && same_bytes a b

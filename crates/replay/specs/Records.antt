@@ -1,6 +1,6 @@
 -- Where a record of a pack lies (data/README.md): a line `LENGTH REPLYLENGTH`, so many bytes of text, so many bytes of reply.
 use Rattle.std.specs.Prelude.{true, false, cond, ◌&&◌, List, ℕ, ◌+◌, ◌-◌, ◌≤◌, leb, length, take, drop}
-use Rattle.spelling.specs.Places.{eatOf}
+use Rattle.spelling.specs.Places.{eat_of}
 use Rattle.spelling.specs.Wholes.{whole_at}
 use Rattle.spelling.specs.declared.Cursor.{Cursor}
 use Rattle.replay.specs.declared.records.Record.{Record}
@@ -22,8 +22,8 @@ placed len c n m =
     (record { text = c.at; reply = c.at + n; end = c.at + n + m; found = true })
     (record { text = 0; reply = 0; end = 0; found = false })
 
-unfoldable pub recordAt : List ℕ → ℕ → Record
-recordAt s at =
+unfoldable pub record_at : List ℕ → ℕ → Record
+record_at s at =
     let n = whole_at s (record { at = at; ok = true }) in
-    let m = whole_at s (eatOf s n.next 32) in
-    placed (length s) (eatOf s m.next 10) n.value m.value
+    let m = whole_at s (eat_of s n.next 32) in
+    placed (length s) (eat_of s m.next 10) n.value m.value

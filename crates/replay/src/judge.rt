@@ -1,10 +1,10 @@
 // One record: whether its reply is the one that the text has.
 ghost use Rattle.std.specs.Prelude.{◌≡◌};
-ghost use Rattle.replay.specs.Judged.{sameBytes, answered};
+ghost use Rattle.replay.specs.Judged.{same_bytes, answered};
 
 // Whether `recorded` is the reply to the job `text`, to the last byte.
 pub(crate) fn is_reply(text: &[u8], recorded: &[u8]) -> bool
-    ensures { result ≡ sameBytes (answered text.now) recorded.now }
+    ensures { result ≡ same_bytes (answered text.now) recorded.now }
 {
     // No reply is longer.
     let mut reply = [0u8; 8192];

@@ -1,5 +1,8 @@
 // The recorded answers of the Rust, run again where there is no Rust: the texts of jobs.pack go through the fitter, and every byte of the
 // replies is compared.
+
+#![tactic(auto)]
+
 mod judge;
 mod records;
 mod say;

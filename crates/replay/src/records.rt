@@ -1,6 +1,6 @@
 // Where the records of a pack lie. A record is a line `LENGTH REPLYLENGTH`, so many bytes of text, so many bytes of reply.
 ghost use Rattle.std.specs.Prelude.{◌≡◌, ◌+◌, leb};
-ghost use Rattle.replay.specs.Records.{recordAt, placed};
+ghost use Rattle.replay.specs.Records.{record_at, placed};
 
 use spelling::{Cursor, eat, whole};
 
@@ -51,7 +51,7 @@ fn place(len: usize, c: Cursor, n: usize, m: usize) -> Record
 
 // The record that starts at `at`.
 pub(crate) fn record_at(s: &[u8], at: usize) -> Record
-    ensures { result ≡ recordAt s.now at }
+    ensures { result ≡ record_at s.now at }
 {
     let n = whole(s, Cursor { at, ok: true });
     let space = eat(s, n.next, b' ');

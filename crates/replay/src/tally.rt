@@ -1,7 +1,7 @@
 // The records of a pack, one after another, and how many are the same.
 ghost use Rattle.std.specs.Prelude.{◌≡◌, length};
 ghost use Rattle.replay.specs.Records.{Within};
-ghost use Rattle.replay.specs.Counted.{oneMore, countedOf, judgedOf, turn_of, tally_of};
+ghost use Rattle.replay.specs.Counted.{one_more, counted_of, judged_of, turn_of, tally_of};
 
 use crate::judge::is_reply;
 use crate::records::{Record, record_at};
@@ -17,13 +17,13 @@ pub struct Tally {
 
 // A record has at least a byte, so no count comes near the bound, which keeps it from wrapping.
 fn one_more(n: usize) -> usize
-    ensures { result ≡ oneMore n }
+    ensures { result ≡ one_more n }
 {
     if n < 1_000_000_000 { n + 1 } else { n }
 }
 
 fn counted(t: Tally, end: usize, same: bool) -> Tally
-    ensures { result ≡ countedOf t end same }
+    ensures { result ≡ counted_of t end same }
 {
     if same {
         Tally {
@@ -50,7 +50,7 @@ fn tell(i: usize, told: usize, same: bool) {
 // Record i is judged.
 fn judged(s: &[u8], i: usize, r: Record, t: Tally) -> Tally
     requires { Within r (length s.now) }
-    ensures { result ≡ judgedOf s.now r t }
+    ensures { result ≡ judged_of s.now r t }
 {
     let text = r.text;
     let reply = r.reply;

@@ -7,11 +7,11 @@ use lib.Ieee.{Float}
 use Rattle.answer.specs.declared.Answer.{Answer}
 use Rattle.sketch.specs.declared.Ending.{Ending}
 use Rattle.sketch.specs.declared.Ending.TheVariants.{Fitted, TooLong, BadForm, TooMany, OutOfBounds, NoSuchItem, TooManyRows, NotConverged, TooShort}
-use Rattle.reply.specs.Lines.{statusLine}
-use Rattle.reply.specs.Reply.{linesAfter, replyOf}
+use Rattle.reply.specs.Lines.{status_line}
+use Rattle.reply.specs.Reply.{lines_after, reply_of}
 use Rattle.reply.specs.Theorems.{NoCoordinates}
 
-bare-after : (e : Ending) (a : Answer) (out out' : List Float) (p p' m m' : ℕ) → e ≢ Fitted → linesAfter e a out p m ≡ linesAfter e a out' p' m'
+bare-after : (e : Ending) (a : Answer) (out out' : List Float) (p p' m m' : ℕ) → e ≢ Fitted → lines_after e a out p m ≡ lines_after e a out' p' m'
 bare-after Fitted a out out' p p' m m' h = absurd (h refl)
 bare-after NotConverged a out out' p p' m m' h = refl
 bare-after TooLong a out out' p p' m m' h = refl
@@ -23,6 +23,6 @@ bare-after TooManyRows a out out' p p' m m' h = refl
 bare-after TooShort a out out' p p' m m' h = refl
 
 pub prints-no-coordinates : NoCoordinates
-unfolding replyOf
+unfolding reply_of
 prints-no-coordinates a out out' p p' m m' h =
-    ap (λ l. statusLine a.ending ++ l) (bare-after a.ending a out out' (min p 40) (min p' 40) (min m 20) (min m' 20) h)
+    ap (λ l. status_line a.ending ++ l) (bare-after a.ending a out out' (min p 40) (min p' 40) (min m 20) (min m' 20) h)

@@ -8,28 +8,28 @@ use native.Mathlib.Omega.{arith}
 use Rattle.loops.specs.Turns.{fold}
 use Rattle.loops.proofs.Turning.{fold-append}
 use Rattle.spelling.proofs.Digits.{decimal-one, decimal-last, decimal-more, hexadecimal-last}
-use Rattle.spelling.specs.Printed.{decimal, hexDigit, hexadecimal}
-use Rattle.reply.specs.Laid.{LaidBytes, nextByte, laying}
+use Rattle.spelling.specs.Printed.{decimal, hex_digit, hexadecimal}
+use Rattle.reply.specs.Laid.{LaidBytes, next_byte, laying}
 use Rattle.reply.specs.Reply.{rising}
 
-laying-one : (b : ℕ) (s : LaidBytes) → laying (b ∷ []) s ≡ nextByte s b
+laying-one : (b : ℕ) (s : LaidBytes) → laying (b ∷ []) s ≡ next_byte s b
 unfolding fold
 laying-one b s = refl
 
 module _ (s t u : LaidBytes) where
   pub then : (p q : List ℕ) → t ≡ laying p s → u ≡ laying q t → u ≡ laying (p ++ q) s
-  then p q e f = f ∙ rw e (sym (fold-append nextByte s p q))
+  then p q e f = f ∙ rw e (sym (fold-append next_byte s p q))
 
-  pub last : (p : List ℕ) (b : ℕ) → t ≡ laying p s → u ≡ nextByte t b → u ≡ laying (p ++ b ∷ []) s
+  pub last : (p : List ℕ) (b : ℕ) → t ≡ laying p s → u ≡ next_byte t b → u ≡ laying (p ++ b ∷ []) s
   last p b e f = then p (b ∷ []) e (f ∙ sym (laying-one b t))
 
 -- ---- digits
 
-pub one-digit : (s u : LaidBytes) (n b : ℕ) → n < 10 → b ≡ 48 + n % 10 → u ≡ nextByte s b → u ≡ laying (decimal 19 n) s
+pub one-digit : (s u : LaidBytes) (n b : ℕ) → n < 10 → b ≡ 48 + n % 10 → u ≡ next_byte s b → u ≡ laying (decimal 19 n) s
 one-digit s u n b h e f = rw (decimal-one 19 n h, laying-one, ← mod-eq_of_lt h, ← e) f
 
 -- in front of a usize's last digit there are at most nineteen, so that twenty may be allowed there too
-pub more-digits : (s t u : LaidBytes) (n b : ℕ) → 10 ≤ n → n < 2 ^ 64 → t ≡ laying (decimal 19 (n / 10)) s → b ≡ 48 + n % 10 → u ≡ nextByte t b
+pub more-digits : (s t u : LaidBytes) (n b : ℕ) → 10 ≤ n → n < 2 ^ 64 → t ≡ laying (decimal 19 (n / 10)) s → b ≡ 48 + n % 10 → u ≡ next_byte t b
     → u ≡ laying (decimal 19 n) s
 more-digits s t u n b h r g e f =
     rw (decimal-last 18 n h, ← e) (last s t u (decimal 18 (n / 10)) b (rw (decimal-more 18 19 (n / 10) (omega arith) (omega arith)) at g) f)
@@ -38,7 +38,7 @@ pub no-hex : (s : LaidBytes) (k n : ℕ) → k ≡ 0 → s ≡ laying (hexadecim
 unfolding hexadecimal fold
 no-hex s k n e = rw e
 
-pub more-hex : (s t u : LaidBytes) (n b k : ℕ) → (k ≡ 0 → ⊥) → t ≡ laying (hexadecimal (k - 1) (n / 16)) s → b ≡ hexDigit (n % 16) → u ≡ nextByte t b
+pub more-hex : (s t u : LaidBytes) (n b k : ℕ) → (k ≡ 0 → ⊥) → t ≡ laying (hexadecimal (k - 1) (n / 16)) s → b ≡ hex_digit (n % 16) → u ≡ next_byte t b
     → u ≡ laying (hexadecimal k n) s
 more-hex s t u n b zero z g e f = absurd (z refl)
 more-hex s t u n b (suc k) z g e f =

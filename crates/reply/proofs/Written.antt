@@ -9,16 +9,16 @@ use native.Mathlib.Omega.{arith}
 use lib.Seq.{take_at}
 use Rattle.loops.proofs.Parts.{set_past}
 use Rattle.loops.specs.Turns.{fold}
-use Rattle.reply.specs.Laid.{laid, nextByte, laying}
+use Rattle.reply.specs.Laid.{laid, next_byte, laying}
 use Rattle.reply.specs.Promise.{written_of}
 
-one_more : (n b : ℕ) (s : List ℕ) → n < 8192 → nextByte (laid n s) b ≡ laid (n + 1) (set s n b)
-unfolding nextByte
-one_more n b s h = rw (lt-ltb n 8192 h)
+one-more : (n b : ℕ) (s : List ℕ) → n < 8192 → next_byte (laid n s) b ≡ laid (n + 1) (set s n b)
+unfolding next_byte
+one-more n b s h = rw (lt-ltb n 8192 h)
 
 first-laid : (b : ℕ) (bs : List ℕ) (n : ℕ) (s : List ℕ) → n < 8192 → laying (b ∷ bs) (laid n s) ≡ laying bs (laid (n + 1) (set s n b))
 unfolding fold
-first-laid b bs n s h = rw (one_more n b s h)
+first-laid b bs n s h = rw (one-more n b s h)
 
 nothing-laid : (n : ℕ) (s : List ℕ) → laying [] (laid n s) ≡ laid n s
 unfolding fold
@@ -56,9 +56,9 @@ room bs r n s t h e k q =
     let f : laid r t ≡ laid (0 + length bs) (bs ++ drop (length bs) s) = q ∙ filled bs [] s (omega arith) (omega arith) in
     rw (le-leb (length bs) (length s) (omega arith)) (same-slice r (0 + length bs) t (bs ++ drop (length bs) s) f)
 
-pub no_room : (bs : List ℕ) (n : ℕ) (s : List ℕ) → n ≡ length bs → length s < n → s ≡ written_of bs s
+pub no-room : (bs : List ℕ) (n : ℕ) (s : List ℕ) → n ≡ length bs → length s < n → s ≡ written_of bs s
 unfolding written_of
-no_room bs n s e h = rw (lt-leb (length bs) (length s) (omega arith))
+no-room bs n s e h = rw (lt-leb (length bs) (length s) (omega arith))
 
 -- where it has room it starts with them
 pub written-first : (bs s : List ℕ) (n : ℕ) → n ≡ length bs → n ≤ length s → take n (written_of bs s) ≡ bs

@@ -2,7 +2,7 @@
 use Rattle.std.specs.Prelude.{List, [], ◌∷◌, ◌++◌, ℕ, Float}
 use Rattle.std.specs.Float.{binary64}
 use Rattle.std.specs.Float.Ieee.{to_bits}
-use Rattle.spelling.specs.Printed.{decimal, floatText}
+use Rattle.spelling.specs.Printed.{decimal, float_text}
 
 abbrev pub comma : ℕ
 comma = 44
@@ -16,4 +16,4 @@ whole n b = decimal 19 n ++ b ∷ []
 
 -- a NaN's bits are 7ff8000000000000
 unfoldable pub float : Float → ℕ → List ℕ
-float x b = floatText (to_bits binary64 x) ++ b ∷ []
+float x b = float_text (to_bits binary64 x) ++ b ∷ []

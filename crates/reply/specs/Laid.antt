@@ -8,8 +8,8 @@ pub data LaidBytes : Type 0 where
   laid : ℕ → List ℕ → LaidBytes
 
 -- one byte more; past 8,192 there is none, so that the count fits whatever is laid (no reply is that long, `short`)
-unfoldable pub nextByte : LaidBytes → ℕ → LaidBytes
-nextByte (laid n s) b = cond (ltb n 8192) (laid (n + 1) (set s n b)) (laid n s)
+unfoldable pub next_byte : LaidBytes → ℕ → LaidBytes
+next_byte (laid n s) b = cond (ltb n 8192) (laid (n + 1) (set s n b)) (laid n s)
 
 abbrev pub laying : List ℕ → LaidBytes → LaidBytes
-laying bs s = fold nextByte s bs
+laying bs s = fold next_byte s bs

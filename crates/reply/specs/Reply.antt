@@ -2,11 +2,11 @@
 -- after a fit the totals, the groups, the points and the measures; after 7 the failing group with its reason, and its suspects;
 -- otherwise no more.
 use Rattle.std.specs.Prelude.{List, [], ◌++◌, ℕ, zero, suc, ◌+◌, ◌*◌, min, Float, get_or}
-use Rattle.answer.specs.Endings.{blankGroup}
+use Rattle.answer.specs.Endings.{blank_group}
 use Rattle.answer.specs.declared.Answer.{Answer}
 use Rattle.sketch.specs.declared.Ending.{Ending}
 use Rattle.sketch.specs.declared.Ending.TheVariants.{Fitted, TooLong, BadForm, TooMany, OutOfBounds, NoSuchItem, TooManyRows, NotConverged, TooShort}
-use Rattle.reply.specs.Lines.{statusLine, totalLines, groupLine, failedLine, suspectLine, pointLine, measureLine}
+use Rattle.reply.specs.Lines.{status_line, total_lines, group_line, failed_line, suspect_line, point_line, measure_line}
 
 -- f 0, f 1, .. as far as n, one after another
 unfoldable pub rising : (ℕ → List ℕ) → ℕ → List ℕ
@@ -14,34 +14,34 @@ rising f zero = []
 rising f (suc n) = rising f n ++ f n
 
 -- at most as many as an answer holds
-unfoldable pub groupLines : Answer → List ℕ
-groupLines a = rising (λ i. groupLine (get_or a.groups i blankGroup)) (min a.group_count 40)
+unfoldable pub group_lines : Answer → List ℕ
+group_lines a = rising (λ i. group_line (get_or a.groups i blank_group)) (min a.group_count 40)
 
 -- the output holds p points, then m measures
-unfoldable pub outputLines : List Float → ℕ → ℕ → List ℕ
-outputLines out p m = rising (pointLine out) p ++ rising (λ j. measureLine out (2 * p + j)) m
+unfoldable pub output_lines : List Float → ℕ → ℕ → List ℕ
+output_lines out p m = rising (point_line out) p ++ rising (λ j. measure_line out (2 * p + j)) m
 
-unfoldable pub fittedLines : Answer → List Float → ℕ → ℕ → List ℕ
-fittedLines a out p m = totalLines a ++ groupLines a ++ outputLines out p m
+unfoldable pub fitted_lines : Answer → List Float → ℕ → ℕ → List ℕ
+fitted_lines a out p m = total_lines a ++ group_lines a ++ output_lines out p m
 
 -- so many equations an answer may mark as suspects
-abbrev pub markCount : ℕ
-markCount = 40
+abbrev pub mark_count : ℕ
+mark_count = 40
 
-unfoldable pub failedLines : Answer → List ℕ
-failedLines a = failedLine (get_or a.groups 0 blankGroup) ++ rising (suspectLine a.suspects) markCount
+unfoldable pub failed_lines : Answer → List ℕ
+failed_lines a = failed_line (get_or a.groups 0 blank_group) ++ rising (suspect_line a.suspects) mark_count
 
-abbrev pub linesAfter : Ending → Answer → List Float → ℕ → ℕ → List ℕ
-linesAfter Fitted a out p m = fittedLines a out p m
-linesAfter NotConverged a out p m = failedLines a
-linesAfter TooLong a out p m = []
-linesAfter BadForm a out p m = []
-linesAfter TooMany a out p m = []
-linesAfter OutOfBounds a out p m = []
-linesAfter NoSuchItem a out p m = []
-linesAfter TooManyRows a out p m = []
-linesAfter TooShort a out p m = []
+abbrev pub lines_after : Ending → Answer → List Float → ℕ → ℕ → List ℕ
+lines_after Fitted a out p m = fitted_lines a out p m
+lines_after NotConverged a out p m = failed_lines a
+lines_after TooLong a out p m = []
+lines_after BadForm a out p m = []
+lines_after TooMany a out p m = []
+lines_after OutOfBounds a out p m = []
+lines_after NoSuchItem a out p m = []
+lines_after TooManyRows a out p m = []
+lines_after TooShort a out p m = []
 
 -- a job has at most 40 points and 20 measures, so no more are printed
-unfoldable pub replyOf : Answer → List Float → ℕ → ℕ → List ℕ
-replyOf a out points measures = statusLine a.ending ++ linesAfter a.ending a out (min points 40) (min measures 20)
+unfoldable pub reply_of : Answer → List Float → ℕ → ℕ → List ℕ
+reply_of a out points measures = status_line a.ending ++ lines_after a.ending a out (min points 40) (min measures 20)

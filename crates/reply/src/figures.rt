@@ -2,7 +2,7 @@
 ghost use Rattle.std.specs.Prelude.{◌≡◌, ◌+◌, ◌%◌};
 ghost use Rattle.std.specs.Float.{binary64};
 ghost use Rattle.std.specs.Float.Ieee.{to_bits};
-ghost use Rattle.spelling.specs.Printed.{decimal, hexDigit, hexadecimal};
+ghost use Rattle.spelling.specs.Printed.{decimal, hex_digit, hexadecimal};
 ghost use Rattle.reply.specs.Figures.{whole, float};
 ghost use Rattle.reply.specs.Laid.{laid, laying};
 
@@ -36,7 +36,7 @@ pub(crate) fn put_whole(reply: &mut [u8], at: usize, n: usize, b: u8) -> usize
 
 // The last hexadecimal digit.
 fn hex(b: u64) -> u8
-    ensures { result ≡ hexDigit (b % 16) }
+    ensures { result ≡ hex_digit (b % 16) }
 {
     let d = (b % 16) as u8;
     if d < 10 { b'0' + d } else { b'a' - 10 + d }

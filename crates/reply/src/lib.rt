@@ -1,4 +1,7 @@
 // The writer: a job's answer and output to the bytes of its reply (document 01, "The text"; document 02, K6).
+
+#![tactic(auto)]
+
 mod figures;
 mod laying;
 mod lines;

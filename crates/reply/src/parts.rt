@@ -1,8 +1,8 @@
 // The parts of a reply: lines of one sort after another.
 ghost use Rattle.std.specs.Prelude.{◌≡◌, ◌≤◌, ◌+◌, ◌*◌};
 ghost use Rattle.reply.specs.Laid.{laid, laying};
-ghost use Rattle.reply.specs.Lines.{suspectLine, pointLine, measureLine};
-ghost use Rattle.reply.specs.Reply.{rising, groupLines, outputLines, fittedLines, markCount, failedLines, linesAfter, replyOf};
+ghost use Rattle.reply.specs.Lines.{suspect_line, point_line, measure_line};
+ghost use Rattle.reply.specs.Reply.{rising, group_lines, output_lines, fitted_lines, mark_count, failed_lines, lines_after, reply_of};
 
 use crate::lines::{
     failed_line, group_line, measure_line, point_line, status_line, suspect_line, total_lines,
@@ -12,7 +12,7 @@ use loops::smaller;
 use sketch::Ending;
 
 fn group_lines(reply: &mut [u8], at: usize, a: Answer) -> usize
-    ensures { laid result reply.new ≡ laying (groupLines a) (laid at reply.old) }
+    ensures { laid result reply.new ≡ laying (group_lines a) (laid at reply.old) }
 {
     let groups = a.groups;
     let n = smaller(a.group_count, 40);
@@ -26,7 +26,7 @@ fn group_lines(reply: &mut [u8], at: usize, a: Answer) -> usize
 
 fn point_lines(reply: &mut [u8], at: usize, out: &[f64], p: usize) -> usize
     requires { p ≤ 40 }
-    ensures { laid result reply.new ≡ laying (rising (pointLine out.now) p) (laid at reply.old) }
+    ensures { laid result reply.new ≡ laying (rising (point_line out.now) p) (laid at reply.old) }
 {
     let mut next = at;
     for i in 0..p {
@@ -37,7 +37,7 @@ fn point_lines(reply: &mut [u8], at: usize, out: &[f64], p: usize) -> usize
 
 fn measure_lines(reply: &mut [u8], at: usize, out: &[f64], p: usize, m: usize) -> usize
     requires { (p ≤ 40) × (m ≤ 20) }
-    ensures { laid result reply.new ≡ laying (rising (λ j. measureLine out.now (2 * p + j)) m) (laid at reply.old) }
+    ensures { laid result reply.new ≡ laying (rising (λ j. measure_line out.now (2 * p + j)) m) (laid at reply.old) }
 {
     let mut next = at;
     for j in 0..m {
@@ -47,7 +47,7 @@ fn measure_lines(reply: &mut [u8], at: usize, out: &[f64], p: usize, m: usize) -
 }
 
 fn suspect_lines(reply: &mut [u8], at: usize, suspects: [bool; 40]) -> usize
-    ensures { laid result reply.new ≡ laying (rising (suspectLine suspects) markCount) (laid at reply.old) }
+    ensures { laid result reply.new ≡ laying (rising (suspect_line suspects) mark_count) (laid at reply.old) }
 {
     let mut next = at;
     for k in 0..40usize {
@@ -58,14 +58,14 @@ fn suspect_lines(reply: &mut [u8], at: usize, suspects: [bool; 40]) -> usize
 
 fn output_lines(reply: &mut [u8], at: usize, out: &[f64], p: usize, m: usize) -> usize
     requires { (p ≤ 40) × (m ≤ 20) }
-    ensures { laid result reply.new ≡ laying (outputLines out.now p m) (laid at reply.old) }
+    ensures { laid result reply.new ≡ laying (output_lines out.now p m) (laid at reply.old) }
 {
     let at = point_lines(reply, at, out, p);
     measure_lines(reply, at, out, p, m)
 }
 
 fn failed_lines(reply: &mut [u8], at: usize, a: Answer) -> usize
-    ensures { laid result reply.new ≡ laying (failedLines a) (laid at reply.old) }
+    ensures { laid result reply.new ≡ laying (failed_lines a) (laid at reply.old) }
 {
     let groups = a.groups;
     let suspects = a.suspects;
@@ -76,7 +76,7 @@ fn failed_lines(reply: &mut [u8], at: usize, a: Answer) -> usize
 
 fn fitted_lines(reply: &mut [u8], at: usize, a: Answer, out: &[f64], p: usize, m: usize) -> usize
     requires { (p ≤ 40) × (m ≤ 20) }
-    ensures { laid result reply.new ≡ laying (fittedLines a out.now p m) (laid at reply.old) }
+    ensures { laid result reply.new ≡ laying (fitted_lines a out.now p m) (laid at reply.old) }
 {
     let at = total_lines(reply, at, a);
     let at = group_lines(reply, at, a);
@@ -85,7 +85,7 @@ fn fitted_lines(reply: &mut [u8], at: usize, a: Answer, out: &[f64], p: usize, m
 
 fn lines_after(reply: &mut [u8], at: usize, a: Answer, out: &[f64], p: usize, m: usize) -> usize
     requires { (p ≤ 40) × (m ≤ 20) }
-    ensures { laid result reply.new ≡ laying (linesAfter a.ending a out.now p m) (laid at reply.old) }
+    ensures { laid result reply.new ≡ laying (lines_after a.ending a out.now p m) (laid at reply.old) }
 {
     let e = a.ending;
     match e {
@@ -108,7 +108,7 @@ pub(crate) fn whole_reply(
     measures: usize,
     out: &[f64],
 ) -> usize
-    ensures { laid result reply.new ≡ laying (replyOf a out.now points measures) (laid 0 reply.old) }
+    ensures { laid result reply.new ≡ laying (reply_of a out.now points measures) (laid 0 reply.old) }
 {
     let p = smaller(points, 40);
     let m = smaller(measures, 20);

@@ -4,7 +4,7 @@ use mathlib.Core.List.{List}
 use mathlib.Core.Path.{◌≡◌, refl, ◌∙◌}
 use lib.Ieee.{Float}
 use Rattle.answer.specs.declared.Answer.{Answer}
-use Rattle.groups.specs.Listed.{groupingOf}
+use Rattle.groups.specs.Listed.{grouping_of}
 use Rattle.groups.specs.declared.Grouping.{Grouping}
 use Rattle.job.specs.Promise.{Does}
 use Rattle.sketch.specs.Check.{number_of}
@@ -13,7 +13,7 @@ use Rattle.sketch.specs.declared.Ending.{Ending}
 use Rattle.text.specs.Reader.{read_of}
 use Rattle.text.specs.declared.Outcome.TheVariants.{Read, Ends}
 use Rattle.text.specs.declared.Reading.{Reading}
-use Rattle.rooms_c.specs.Jobs.{laidOver, Grouped, SolvesBy, SolvesText}
+use Rattle.rooms_c.specs.Jobs.{laid_over, Grouped, SolvesBy, SolvesText}
 
 module _ (out p q r out' p' q' r' : List Float) (n : ℕ) where
   pub build-solved : (b : Build) (a : Answer) → Does b out p q r out' p' q' r' a → n ≡ number_of a.ending → SolvesBy out p q r Read b out' p' q' r' n
@@ -39,7 +39,7 @@ refused-solved out p q r n s t e h o k = record {
   third = rw (← h, o);
 }
 
-pub grouped : (s : List ℕ) (t : Reading) (g : Grouping) (points equations points' equations' : List ℕ) → t ≡ read_of s → g ≡ groupingOf t.build
-    → points' ≡ laidOver g.of_point points → equations' ≡ laidOver g.of_equation equations
-    → Grouped (groupingOf (read_of s).build) points equations points' equations' g.count
+pub grouped : (s : List ℕ) (t : Reading) (g : Grouping) (points equations points' equations' : List ℕ) → t ≡ read_of s → g ≡ grouping_of t.build
+    → points' ≡ laid_over g.of_point points → equations' ≡ laid_over g.of_equation equations
+    → Grouped (grouping_of (read_of s).build) points equations points' equations' g.count
 grouped s t g points equations points' equations' h e p q = rw (← h, ← e) (record { count = refl; of-points = p; of-equations = q })

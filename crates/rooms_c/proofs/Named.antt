@@ -10,7 +10,7 @@ use lib.Ieee.{Float}
 use lib.ListN.{length, take}
 use Rattle.solver.proofs.Reasons.{column-named}
 use Rattle.solver.specs.Promise.{checked, found, solved, answer_of}
-use Rattle.solver.specs.Reasons.{Reasoned, some, noPivot, notFinite}
+use Rattle.solver.specs.Reasons.{Reasoned, some, no_pivot, not_finite}
 use Rattle.solver.specs.declared.Elimination.{Elimination}
 use Rattle.solver.specs.declared.Elimination.TheVariants.{TooMany, TooShort}
 use Rattle.rooms_c.specs.Code.{Named}
@@ -18,8 +18,8 @@ use Rattle.rooms_c.specs.Code.{Named}
 module _ (n : ℕ) (a b : List Float) where
   found-named : n ≤ 80 → (F : Reasoned (List Float)) → solved n a b ≡ F → Named (found F)
   found-named h (some y) e = tt
-  found-named h (noPivot c) e = omega (arith, (column-named n (take (n * n) a) (take n b) c e).1)
-  found-named h notFinite e = tt
+  found-named h (no_pivot c) e = omega (arith, (column-named n (take (n * n) a) (take n b) c e).1)
+  found-named h not_finite e = tt
 
   room-named : (s t : Bool) (e : Elimination) → Named e → Named (cond s (cond t e TooShort) TooShort)
   room-named true true e h = h

@@ -1,7 +1,7 @@
 -- The library call on the build of a text, and tables laid in lent places.
 use Rattle.std.specs.Prelude.{ℕ, min, List, ◌≡◌, Float, length, get_or, set}
 use Rattle.groups.specs.declared.Grouping.{Grouping}
-use Rattle.job.specs.Promise.{answerAfter, outputAfter, areaAfter, verdict}
+use Rattle.job.specs.Promise.{answer_after, output_after, area_after, verdict}
 use Rattle.loops.specs.Turns.{up_to}
 use Rattle.sketch.specs.Check.{number_of}
 use Rattle.sketch.specs.declared.Build.{Build}
@@ -10,38 +10,38 @@ use Rattle.text.specs.declared.Outcome.{Outcome}
 use Rattle.text.specs.declared.Outcome.TheVariants.{Read, Ends}
 
 -- a table of 40 in lent places, as far as there are any
-unfoldable pub tableIn : List ℕ → ℕ → List ℕ → List ℕ
-tableIn table i s = set s i (get_or table i 0)
+unfoldable pub table_in : List ℕ → ℕ → List ℕ → List ℕ
+table_in table i s = set s i (get_or table i 0)
 
-unfoldable pub laidOver : List ℕ → List ℕ → List ℕ
-laidOver table s = up_to (min 40 (length s)) 0 (tableIn table) s
+unfoldable pub laid_over : List ℕ → List ℕ → List ℕ
+laid_over table s = up_to (min 40 (length s)) 0 (table_in table) s
 
 -- the count of groups, and the group of each point and of each equation
 pub record Grouped (g : Grouping) (points equations points' equations' : List ℕ) (n : ℕ) : Type 0 where
   pub count : n ≡ g.count
-  pub of-points : points' ≡ laidOver g.of_point points
-  pub of-equations : equations' ≡ laidOver g.of_equation equations
+  pub of-points : points' ≡ laid_over g.of_point points
+  pub of-equations : equations' ≡ laid_over g.of_equation equations
 
 -- document 01's number, and what is left in each lent place; a text that is not read leaves all of it alone
 module _ (out p q r : List Float) where
-  abbrev pub numberBy : Outcome → Build → ℕ
-  numberBy Read b = number_of (answerAfter b (verdict b out p q r)).ending
-  numberBy (Ends e) b = number_of e
+  abbrev pub number_by : Outcome → Build → ℕ
+  number_by Read b = number_of (answer_after b (verdict b out p q r)).ending
+  number_by (Ends e) b = number_of e
 
-  abbrev pub outputBy : Outcome → Build → List Float
-  outputBy Read b = outputAfter b out (verdict b out p q r)
-  outputBy (Ends e) b = out
+  abbrev pub output_by : Outcome → Build → List Float
+  output_by Read b = output_after b out (verdict b out p q r)
+  output_by (Ends e) b = out
 
-  abbrev pub areaBy : List Float → Outcome → Build → List Float
-  areaBy a Read b = areaAfter a (verdict b out p q r)
-  areaBy a (Ends e) b = a
+  abbrev pub area_by : List Float → Outcome → Build → List Float
+  area_by a Read b = area_after a (verdict b out p q r)
+  area_by a (Ends e) b = a
 
   pub record SolvesBy (o : Outcome) (b : Build) (out' p' q' r' : List Float) (n : ℕ) : Type 0 where
-    pub number : n ≡ numberBy o b
-    pub output : out' ≡ outputBy o b
-    pub first : p' ≡ areaBy p o b
-    pub second : q' ≡ areaBy q o b
-    pub third : r' ≡ areaBy r o b
+    pub number : n ≡ number_by o b
+    pub output : out' ≡ output_by o b
+    pub first : p' ≡ area_by p o b
+    pub second : q' ≡ area_by q o b
+    pub third : r' ≡ area_by r o b
 
   abbrev pub SolvesText : List ℕ → List Float → List Float → List Float → List Float → ℕ → Type 0
   SolvesText s = SolvesBy (read_of s).outcome (read_of s).build

@@ -1,19 +1,19 @@
 // Calls on a whole build.
 ghost use Rattle.std.specs.Prelude.{◌≡◌};
-ghost use Rattle.groups.specs.Listed.{groupingOf};
-ghost use Rattle.level.specs.Level.{levelOf};
-ghost use Rattle.measures.specs.Gauges.{measuredIn};
-ghost use Rattle.plate.specs.Worst.{worstOf};
+ghost use Rattle.groups.specs.Listed.{grouping_of};
+ghost use Rattle.level.specs.Level.{level_of};
+ghost use Rattle.measures.specs.Gauges.{measured_in};
+ghost use Rattle.plate.specs.Worst.{worst_of};
 ghost use Rattle.text.specs.Reader.{read_of};
 ghost use Rattle.text.specs.declared.Outcome.TheVariants.{Read};
-ghost use Rattle.rooms_c.specs.Jobs.{laidOver, Grouped, SolvesBy, SolvesText};
+ghost use Rattle.rooms_c.specs.Jobs.{laid_over, Grouped, SolvesBy, SolvesText};
 
 use loops::smaller;
 use sketch::Build;
 use text::Outcome;
 
 fn lay(table: [usize; 40], to: &mut [usize])
-    ensures { to.new ≡ laidOver table to.old }
+    ensures { to.new ≡ laid_over table to.old }
 {
     let n = smaller(40, to.len());
     for i in 0..n {
@@ -24,7 +24,7 @@ fn lay(table: [usize; 40], to: &mut [usize])
 // `groups::groups`: how many there are, and the group of each point and each equation, as far as there is room.
 #[unsafe(no_mangle)]
 pub extern "C" fn rooms_groups(text: &[u8], points: &mut [usize], equations: &mut [usize]) -> usize
-    ensures { Grouped (groupingOf (read_of text.now).build) points.old equations.old points.new equations.new result }
+    ensures { Grouped (grouping_of (read_of text.now).build) points.old equations.old points.new equations.new result }
 {
     let reading = text::read(text);
     let b = reading.build;
@@ -39,7 +39,7 @@ pub extern "C" fn rooms_groups(text: &[u8], points: &mut [usize], equations: &mu
 // `level::level`
 #[unsafe(no_mangle)]
 pub extern "C" fn rooms_level(text: &[u8], points: &mut [f64])
-    ensures { points.new ≡ levelOf (read_of text.now).build points.old }
+    ensures { points.new ≡ level_of (read_of text.now).build points.old }
 {
     let reading = text::read(text);
     let b = reading.build;
@@ -49,7 +49,7 @@ pub extern "C" fn rooms_level(text: &[u8], points: &mut [f64])
 // `measures::measures`
 #[unsafe(no_mangle)]
 pub extern "C" fn rooms_measures(text: &[u8], points: &[f64], out: &mut [f64])
-    ensures { out.new ≡ measuredIn (read_of text.now).build points.now out.old }
+    ensures { out.new ≡ measured_in (read_of text.now).build points.now out.old }
 {
     let reading = text::read(text);
     let b = reading.build;
@@ -59,7 +59,7 @@ pub extern "C" fn rooms_measures(text: &[u8], points: &[f64], out: &mut [f64])
 // `plate::worst`
 #[unsafe(no_mangle)]
 pub extern "C" fn rooms_worst(text: &[u8], points: &[f64]) -> f64
-    ensures { result ≡ worstOf (read_of text.now).build points.now }
+    ensures { result ≡ worst_of (read_of text.now).build points.now }
 {
     let reading = text::read(text);
     let b = reading.build;

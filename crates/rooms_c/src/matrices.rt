@@ -1,8 +1,8 @@
 // `solver` and `nullspace`: bare matrices and lists.
 ghost use Rattle.std.specs.Prelude.{◌≡◌};
-ghost use Rattle.floats.specs.Largest.{maxAbsOf};
-ghost use Rattle.solver.specs.Sums.{norm2Of};
-ghost use Rattle.rooms_c.specs.Code.{SolvesC, SpansC, Named, solvedCode, rankCode};
+ghost use Rattle.floats.specs.Largest.{max_abs_of};
+ghost use Rattle.solver.specs.Sums.{norm2_of};
+ghost use Rattle.rooms_c.specs.Code.{SolvesC, SpansC, Named, solved_code, rank_code};
 
 use nullspace::NullSpace;
 use solver::Elimination;
@@ -17,7 +17,7 @@ pub extern "C" fn rooms_solve_dense(a: &mut [f64], b: &mut [f64], n: usize) -> u
 
 fn code(e: Elimination) -> usize
     requires { Named e }
-    ensures { result ≡ solvedCode e }
+    ensures { result ≡ solved_code e }
 {
     match e {
         Elimination::Some => 0,
@@ -30,14 +30,14 @@ fn code(e: Elimination) -> usize
 
 #[unsafe(no_mangle)]
 pub extern "C" fn rooms_max_abs(v: &[f64]) -> f64
-    ensures { result ≡ maxAbsOf v.now }
+    ensures { result ≡ max_abs_of v.now }
 {
     floats::max_abs(v)
 }
 
 #[unsafe(no_mangle)]
 pub extern "C" fn rooms_norm2(v: &[f64]) -> f64
-    ensures { result ≡ norm2Of v.now }
+    ensures { result ≡ norm2_of v.now }
 {
     solver::norm2(v)
 }
@@ -57,7 +57,7 @@ pub extern "C" fn rooms_null_space(
 }
 
 fn rank_code(e: NullSpace) -> usize
-    ensures { result ≡ rankCode e }
+    ensures { result ≡ rank_code e }
 {
     match e {
         NullSpace::Rank(r) => r,

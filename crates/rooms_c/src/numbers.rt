@@ -2,12 +2,12 @@
 ghost use Rattle.std.specs.Prelude.{◌≡◌, get_or, set};
 ghost use Rattle.std.specs.Float.{nan};
 ghost use Rattle.std.specs.Float.Ieee.Scale.{finite};
-ghost use Rattle.floats.specs.Magnitude.{absOf, magnitudeOf, max_of};
-ghost use Rattle.root.specs.Root.{sqrtOf};
+ghost use Rattle.floats.specs.Magnitude.{abs_of, magnitude_of, max_of};
+ghost use Rattle.root.specs.Root.{sqrt_of};
 
 #[unsafe(no_mangle)]
 pub extern "C" fn rooms_abs(x: f64) -> f64
-    ensures { result ≡ absOf x }
+    ensures { result ≡ abs_of x }
 {
     floats::abs(x)
 }
@@ -28,7 +28,7 @@ pub extern "C" fn rooms_max(a: f64, b: f64) -> f64
 
 #[unsafe(no_mangle)]
 pub extern "C" fn rooms_magnitude(x: f64) -> u64
-    ensures { result ≡ magnitudeOf x }
+    ensures { result ≡ magnitude_of x }
 {
     floats::magnitude(x)
 }
@@ -56,7 +56,7 @@ pub extern "C" fn rooms_put(s: &mut [f64], i: usize, v: f64)
 
 #[unsafe(no_mangle)]
 pub extern "C" fn rooms_sqrt(x: f64) -> f64
-    ensures { result ≡ sqrtOf x }
+    ensures { result ≡ sqrt_of x }
 {
     root::sqrt(x)
 }

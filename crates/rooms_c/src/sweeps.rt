@@ -2,7 +2,7 @@
 ghost use Rattle.std.specs.Prelude.{◌≡◌};
 ghost use Rattle.loops.specs.Turns.{up_to};
 ghost use Rattle.rows.specs.Column.{laid};
-ghost use Rattle.rooms_c.specs.Sweeps.{columnAgain, jacobianAgain};
+ghost use Rattle.rooms_c.specs.Sweeps.{column_again, jacobian_again};
 ghost use Rattle.text.specs.Reader.{read_of};
 
 // `rows::residuals`, `times` times over.
@@ -15,7 +15,7 @@ pub extern "C" fn rooms_residuals(
     r: &mut [f64],
     times: usize,
 ) -> usize
-    ensures { laid result r.new ≡ up_to times 0 (columnAgain (read_of text.now).build.equations (read_of text.now).build.lines chosen.now places.now x.now) (laid 0 r.old) }
+    ensures { laid result r.new ≡ up_to times 0 (column_again (read_of text.now).build.equations (read_of text.now).build.lines chosen.now places.now x.now) (laid 0 r.old) }
 {
     let reading = text::read(text);
     let b = reading.build;
@@ -40,7 +40,7 @@ pub extern "C" fn rooms_jacobian(
     j: &mut [f64],
     times: usize,
 ) -> usize
-    ensures { laid result j.new ≡ up_to times 0 (jacobianAgain (read_of text.now).build.equations (read_of text.now).build.lines chosen.now places.now columns.now free x.now) (laid 0 j.old) }
+    ensures { laid result j.new ≡ up_to times 0 (jacobian_again (read_of text.now).build.equations (read_of text.now).build.lines chosen.now places.now columns.now free x.now) (laid 0 j.old) }
 {
     let reading = text::read(text);
     let b = reading.build;

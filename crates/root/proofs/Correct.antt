@@ -1,4 +1,4 @@
--- `sqrtOf` is the correctly rounded root, and nothing else is. Assumes nothing.
+-- `sqrt_of` is the correctly rounded root, and nothing else is. Assumes nothing.
 use mathlib.Core.Path.{◌≡◌, sym, ap, ◌∙◌, subst, subst⁻¹}
 use mathlib.Core.Bool.{not}
 use Prim.Native.Nat.{ℕ, ◌+◌, ◌*◌, ◌^◌, ◌≤◌, ◌<◌}
@@ -8,7 +8,7 @@ use lib.Ieee.{Float, nan, inf, fin, binary64, fits, is_nan, of_bits, to_bits}
 use lib.Ieee.Bits.{of_bits-to_bits, of_bits-fits, to_bits-of_bits}
 use lib.Ieee.Positive.{positive, positive-finite}
 use Rattle.root.specs.Rounded.{Rounded}
-use Rattle.root.specs.Root.{count, halfway, rootBits, sqrtOf}
+use Rattle.root.specs.Root.{count, halfway, root_bits, sqrt_of}
 use Rattle.root.proofs.Whole.{root-exists, root-small, under-large}
 use Rattle.root.proofs.Order.{Low, Near, near-unique}
 use Rattle.root.proofs.Place.{inside, inside-ge, inside-le, root-near, root_is}
@@ -28,7 +28,7 @@ rounded-unique x r s p q =
 abbrev Found : ℕ → ℕ → Type 0
 Found y b = Near y b × (0 < b) × (b < 2047 * 2 ^ 52)
 
-found : (b : ℕ) → 0 < b → b < 2047 * 2 ^ 52 → Found (count b * 2 ^ 1076) (rootBits (count b * 2 ^ 1076))
+found : (b : ℕ) → 0 < b → b < 2047 * 2 ^ 52 → Found (count b * 2 ^ 1076) (root_bits (count b * 2 ^ 1076))
 found b p h =
     let n = normal b p h in
     let m = n.0 in
@@ -38,7 +38,7 @@ found b p h =
     let r = o.0 in
     let s : r < 2 ^ 53 = root-small t r (inside-le m k n.2 n.3) o.1.0 in
     let l : 2 ^ 52 ≤ r = under-large t r (inside-ge m k n.2 n.3) o.1.1 in
-    subst (λ (y : ℕ). Found y (rootBits y)) n.5
+    subst (λ (y : ℕ). Found y (root_bits y)) n.5
     (subst⁻¹ (Found (m * 2 ^ (k + 54))) (root_is m k n.2 n.3 n.4 r o.1) (root-near m k n.2 n.3 r o.1, omega arith, omega (arith, n.4)))
 
 not-nan : (x : Float) → T (positive x) → T (not (is_nan x))
@@ -48,10 +48,10 @@ not-nan (inf s) p = tt
 not-nan (fin s m e) p = tt
 
 -- the root of every positive x that the format holds is correctly rounded
-pub rounded : (x : Float) → T (positive x) → T (fits binary64 x) → Rounded x (sqrtOf x)
+pub rounded : (x : Float) → T (positive x) → T (fits binary64 x) → Rounded x (sqrt_of x)
 rounded x p h =
     let y = count (to_bits binary64 x) * 2 ^ 1076 in
-    let b = rootBits y in
+    let b = root_bits y in
     let f = found (to_bits binary64 x) (positive-bits x h p).0 (positive-bits x h p).1 in
     let q = bits_positive b f.1 f.2 in
     let e : to_bits binary64 (of_bits binary64 b) ≡ b = to_bits-of_bits binary64 b (omega (arith, f.2)) (not-nan (of_bits binary64 b) q) in

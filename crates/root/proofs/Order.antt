@@ -1,4 +1,4 @@
--- The patterns stand in the order of their values, so `rootBits` finds the one pattern that has y between the squares of its halfway points. Assumes nothing.
+-- The patterns stand in the order of their values, so `root_bits` finds the one pattern that has y between the squares of its halfway points. Assumes nothing.
 use mathlib.Core.Path.{◌≡◌, sym, ap, ap₂, ◌∙◌, subst, subst₂}
 use mathlib.Core.Bool.{Bool, true, false, cond}
 use Prim.Native.Nat.{ℕ, zero, suc, ◌+◌, ◌-◌, ◌*◌, ◌/◌, ◌%◌, ◌^◌, ◌≤◌, ◌<◌}
@@ -9,13 +9,13 @@ use native.Mathlib.Omega.{arith}
 use lib.Arith.{digits_div, digits_mod}
 use lib.Pow.{pow_pos}
 use borrow.Author.Tests.{lt-ltb, le-ltb}
-use Rattle.root.specs.Root.{scaled, count, halfway, below, setBits, rootBits}
+use Rattle.root.specs.Root.{scaled, count, halfway, below, set_bits, root_bits}
 
 -- ---- one pattern after another
 
-pub count_at : (e t : ℕ) → t < 2 ^ 52 → count (e * 2 ^ 52 + t) ≡ scaled e t
+pub count-at : (e t : ℕ) → t < 2 ^ 52 → count (e * 2 ^ 52 + t) ≡ scaled e t
 unfolding count
-count_at e t h = ap₂ scaled (digits_div e h) (digits_mod e h)
+count-at e t h = ap₂ scaled (digits_div e h) (digits_mod e h)
 
 digit : (e t : ℕ) → scaled e t < scaled e (t + 1)
 unfolding scaled
@@ -32,10 +32,10 @@ step : (e t : ℕ) → t < 2 ^ 52 → count (e * 2 ^ 52 + t) < count (e * 2 ^ 52
 step e t h = elim (dec_lt (t + 1) (2 ^ 52)) [
   | yes g ↦
       let n : e * 2 ^ 52 + (t + 1) ≡ e * 2 ^ 52 + t + 1 = omega arith in
-      subst₂ (λ (a b : ℕ). a < b) (sym (count_at e t h)) (sym (count_at e (t + 1) g) ∙ ap count n) (digit e t)
+      subst₂ (λ (a b : ℕ). a < b) (sym (count-at e t h)) (sym (count-at e (t + 1) g) ∙ ap count n) (digit e t)
   | no g ↦
       let n : suc e * 2 ^ 52 + 0 ≡ e * 2 ^ 52 + t + 1 = omega arith in
-      subst₂ (λ (a b : ℕ). a < b) (sym (count_at e t h)) (sym (count_at (suc e) 0 (pow_pos 52)) ∙ ap count n) (field e t h)
+      subst₂ (λ (a b : ℕ). a < b) (sym (count-at e t h)) (sym (count-at (suc e) 0 (pow_pos 52)) ∙ ap count n) (field e t h)
 ]
 
 -- each pattern's value is above the one before
@@ -95,20 +95,20 @@ bit-clear y t l =
     let g : y ≤ halfway t * halfway t = omega arith in
     le-ltb _ _ g
 
-setBits-finds : (k y a b : ℕ) → a ≤ b → b < a + 2 ^ k → Near y b → setBits k y a ≡ b
-unfolding setBits
-setBits-finds zero y a b h g n = omega arith
-setBits-finds (suc k) y a b h g n =
+set_bits-finds : (k y a b : ℕ) → a ≤ b → b < a + 2 ^ k → Near y b → set_bits k y a ≡ b
+unfolding set_bits
+set_bits-finds zero y a b h g n = omega arith
+set_bits-finds (suc k) y a b h g n =
     let t = a + 2 ^ k in
     elim (dec_lt (halfway t * halfway t) y) [
       | yes l ↦
-          ap (λ (v : Bool). setBits k y (cond v t a)) (bit-set y t l)
-          ∙ setBits-finds k y t b (low_near y t b l n) (omega (arith, pow-succ' 2 k)) n
+          ap (λ (v : Bool). set_bits k y (cond v t a)) (bit-set y t l)
+          ∙ set_bits-finds k y t b (low_near y t b l n) (omega (arith, pow-succ' 2 k)) n
       | no l ↦
-          ap (λ (v : Bool). setBits k y (cond v t a)) (bit-clear y t l)
-          ∙ setBits-finds k y a b h (lt_of_not-le (λ g. l (low-down y t b g n.0))) n
+          ap (λ (v : Bool). set_bits k y (cond v t a)) (bit-clear y t l)
+          ∙ set_bits-finds k y a b h (lt_of_not-le (λ g. l (low-down y t b g n.0))) n
     ]
 
-pub near-root : (y b : ℕ) → b < 2 ^ 63 → Near y b → rootBits y ≡ b
-unfolding rootBits
-near-root y b h n = setBits-finds 63 y 0 b (omega arith) (omega arith) n
+pub near-root : (y b : ℕ) → b < 2 ^ 63 → Near y b → root_bits y ≡ b
+unfolding root_bits
+near-root y b h n = set_bits-finds 63 y 0 b (omega arith) (omega arith) n

@@ -5,10 +5,10 @@ use native.Mathlib.Nat.{le_trans, le_of_eq, le_of_lt, lt_of_lt_of_le, lt_of_le_o
 use native.Mathlib.Decide.{dec_lt}
 use native.Mathlib.Omega.{arith}
 use lib.Pow.{pow_pos, pow-add}
-use Rattle.root.specs.Root.{scaled, count, halfway, rootBits}
+use Rattle.root.specs.Root.{scaled, count, halfway, root_bits}
 use Rattle.root.specs.Whole.{Over, Root}
 use Rattle.root.proofs.Whole.{root-small, under-large}
-use Rattle.root.proofs.Order.{count_at, count-lt, Low, Near, near-root}
+use Rattle.root.proofs.Order.{count-at, count-lt, Low, Near, near-root}
 
 scaled-lead : (w u : ℕ) → scaled (suc w) u ≡ (2 ^ 52 + u) * 2 ^ w
 unfolding scaled
@@ -20,12 +20,12 @@ count-is w r h g = elim (dec_lt r (2 ^ 53)) [
   | yes l ↦
       let e : w * 2 ^ 52 + r ≡ suc w * 2 ^ 52 + (r - 2 ^ 52) = omega arith in
       let d : 2 ^ 52 + (r - 2 ^ 52) ≡ r = omega arith in
-      ap count e ∙ count_at (suc w) (r - 2 ^ 52) (omega arith) ∙ scaled-lead w (r - 2 ^ 52) ∙ ap (λ (x : ℕ). x * 2 ^ w) d
+      ap count e ∙ count-at (suc w) (r - 2 ^ 52) (omega arith) ∙ scaled-lead w (r - 2 ^ 52) ∙ ap (λ (x : ℕ). x * 2 ^ w) d
   | no l ↦
       let e : w * 2 ^ 52 + r ≡ suc (suc w) * 2 ^ 52 + 0 = omega arith in
       let d : r ≡ 2 ^ 53 = omega arith in
       ap count e
-      ∙ count_at (suc (suc w)) 0 (pow_pos 52)
+      ∙ count-at (suc (suc w)) 0 (pow_pos 52)
       ∙ scaled-lead (suc w) 0
       ∙ omega (arith, pow-succ' 2 w, ap (λ (x : ℕ). x * 2 ^ w) d)
 ]
@@ -136,7 +136,7 @@ module _ (m k : ℕ) (lead : 2 ^ 52 ≤ m) (fit : m < 2 ^ 53) where
   pub root-near : (r : ℕ) → Root (inside m k) r → Near (m * 2 ^ (k + 54)) (k / 2 * 2 ^ 52 + r)
   root-near r o = subst⁻¹ (λ (y : ℕ). Near y (k / 2 * 2 ^ 52 + r)) (inside_is m k) (placed-near (inside m k) (k / 2) r inside-ge inside-le o)
 
-  pub root_is : k < 3068 → (r : ℕ) → Root (inside m k) r → rootBits (m * 2 ^ (k + 54)) ≡ k / 2 * 2 ^ 52 + r
+  pub root_is : k < 3068 → (r : ℕ) → Root (inside m k) r → root_bits (m * 2 ^ (k + 54)) ≡ k / 2 * 2 ^ 52 + r
   root_is h r o =
       let s : r < 2 ^ 53 = root-small (inside m k) r inside-le o.0 in
       near-root (m * 2 ^ (k + 54)) (k / 2 * 2 ^ 52 + r) (omega arith) (root-near r o)

@@ -1,4 +1,4 @@
--- Patterns and floats: a pattern's value is `count` of it in units of 2 ^ -1074, and what `sqrtOf` is by the pattern. Assumes nothing.
+-- Patterns and floats: a pattern's value is `count` of it in units of 2 ^ -1074, and what `sqrt_of` is by the pattern. Assumes nothing.
 use mathlib.Core.Path.{◌≡◌, refl, sym, ap, ap₂, ◌∙◌, subst, subst⁻¹}
 use mathlib.Core.Bool.{Bool, true, false, cond, true≢false}
 use Prim.Native.Nat.{ℕ, zero, suc, ◌+◌, ◌*◌, ◌/◌, ◌%◌, ◌^◌, ◌≤◌, ◌<◌}
@@ -14,7 +14,7 @@ use lib.Ieee.Exact.{HasValue, odd_sign}
 use lib.Ieee.Fits.{down_pos}
 use lib.Ieee.Positive.{positive, positive_of_value}
 use borrow.Author.Tests.{le-leb, lt-leb, ne_eqb}
-use Rattle.root.specs.Root.{scaled, count, rootBits, sqrtOf}
+use Rattle.root.specs.Root.{scaled, count, root_bits, sqrt_of}
 use Rattle.root.proofs.Order.{count-lt, count-le}
 
 -- ---- the value of a pattern
@@ -49,16 +49,16 @@ bits-value b h =
 pub bits_positive : (b : ℕ) → 0 < b → b < 2047 * 2 ^ 52 → T (positive (of_bits binary64 b))
 bits_positive b p h = positive_of_value (of_bits binary64 b) (count b) (2 ^ 1074) (bits-value b h) (omega (arith, count-lt 0, count-le 1 b p))
 
-pub root-positive : (x : Float) → T (positive x) → sqrtOf x ≡ of_bits binary64 (rootBits (count (to_bits binary64 x) * 2 ^ 1076))
-unfolding sqrtOf
+pub root-positive : (x : Float) → T (positive x) → sqrt_of x ≡ of_bits binary64 (root_bits (count (to_bits binary64 x) * 2 ^ 1076))
+unfolding sqrt_of
 root-positive nan p = absurd p
 root-positive (inf s) p = absurd p
 root-positive (fin true m e) p = absurd p
 root-positive (fin false zero e) p = absurd p
 root-positive (fin false (suc m) e) p = refl
 
-root-negative : (x : Float) (a c : ℕ) → HasValue x true a c → 0 < a → sqrtOf x ≡ nan
-unfolding sqrtOf
+root-negative : (x : Float) (a c : ℕ) → HasValue x true a c → 0 < a → sqrt_of x ≡ nan
+unfolding sqrt_of
 root-negative nan a c h p = absurd h
 root-negative (inf s) a c h p = absurd h
 root-negative (fin false m e) a c h p = absurd (true≢false (sym h.0))
@@ -69,19 +69,19 @@ root-negative (fin true zero e) a c h p = absurd (lt_irrefl 0 (subst (λ (n : �
 root-negative (fin true (suc m) e) a c h p = refl
 
 -- an infinity or a NaN: all but +infinity have none
-last-signed : (t : ℕ) → sqrtOf (of_fields binary64 true 2047 t) ≡ nan
-unfolding of_fields sqrtOf
+last-signed : (t : ℕ) → sqrt_of (of_fields binary64 true 2047 t) ≡ nan
+unfolding of_fields sqrt_of
 last-signed t = go (eqb t 0)
   where
-    go : (v : Bool) → sqrtOf (cond v (inf true) nan) ≡ nan
+    go : (v : Bool) → sqrt_of (cond v (inf true) nan) ≡ nan
     go true = refl
     go false = refl
 
-last-nan : (t : ℕ) → 0 < t → sqrtOf (of_fields binary64 false 2047 t) ≡ nan
-unfolding of_fields sqrtOf
+last-nan : (t : ℕ) → 0 < t → sqrt_of (of_fields binary64 false 2047 t) ≡ nan
+unfolding of_fields sqrt_of
 last-nan t h =
     let n : t ≡ 0 → ⊥ = omega arith in
-    ap (λ (v : Bool). sqrtOf (cond v (inf false) nan)) (ne_eqb t 0 n)
+    ap (λ (v : Bool). sqrt_of (cond v (inf false) nan)) (ne_eqb t 0 n)
 
 scaled-pos : (e t : ℕ) → 0 < e + t → 0 < scaled e t
 unfolding scaled
@@ -89,22 +89,22 @@ scaled-pos zero t h = omega arith
 scaled-pos (suc e) t h = mul-pos (omega arith) (pow_pos e)
 
 -- every pattern past +infinity's but -0.0's: the NaNs and the negatives
-pub root-other : (b : ℕ) → 2047 * 2 ^ 52 < b → (b ≡ 2 ^ 63 → ⊥) → b < 2 ^ 64 → sqrtOf (of_bits binary64 b) ≡ nan
+pub root-other : (b : ℕ) → 2047 * 2 ^ 52 < b → (b ≡ 2 ^ 63 → ⊥) → b < 2 ^ 64 → sqrt_of (of_bits binary64 b) ≡ nan
 root-other b h z w = elim (dec_lt b (2 ^ 63)) [
   | yes l ↦
       let e : b / 2 ^ 52 ≡ 2047 = omega arith in
-      ap sqrtOf (plain b l ∙ ap (λ (e : ℕ). of_fields binary64 false e (b % 2 ^ 52)) e) ∙ last-nan (b % 2 ^ 52) (omega arith)
+      ap sqrt_of (plain b l ∙ ap (λ (e : ℕ). of_fields binary64 false e (b % 2 ^ 52)) e) ∙ last-nan (b % 2 ^ 52) (omega arith)
   | no l ↦
       let g : 2 ^ 63 ≤ b = omega arith in
-      ap sqrtOf (signed b g) ∙ negative (b % 2 ^ 63 / 2 ^ 52) (b % 2 ^ 52) (omega arith) (omega arith)
+      ap sqrt_of (signed b g) ∙ negative (b % 2 ^ 63 / 2 ^ 52) (b % 2 ^ 52) (omega arith) (omega arith)
 ]
   where
-    negative : (e t : ℕ) → e ≤ 2047 → 0 < e + t → sqrtOf (of_fields binary64 true e t) ≡ nan
+    negative : (e t : ℕ) → e ≤ 2047 → 0 < e + t → sqrt_of (of_fields binary64 true e t) ≡ nan
     negative e t f p = elim (dec_lt e 2047) [
       | yes l ↦ root-negative (of_fields binary64 true e t) (scaled e t) (2 ^ 1074) (value-at true e t l) (scaled-pos e t p)
       | no l ↦
           let d : e ≡ 2047 = omega arith in
-          ap (λ (e : ℕ). sqrtOf (of_fields binary64 true e t)) d ∙ last-signed t
+          ap (λ (e : ℕ). sqrt_of (of_fields binary64 true e t)) d ∙ last-signed t
     ]
 
 -- ---- the patterns of the positive values
@@ -152,15 +152,15 @@ bits-finite b w p = elim (dec_lt b (2 ^ 63)) [
 -- ---- of a float that the format holds, by its own pattern
 
 module _ (x : Float) (held : T (fits binary64 x)) where
-  pub own-positive : 0 < to_bits binary64 x → to_bits binary64 x < 2047 * 2 ^ 52 → sqrtOf x ≡ of_bits binary64 (rootBits (count (to_bits binary64 x) * 2 ^ 1076))
+  pub own-positive : 0 < to_bits binary64 x → to_bits binary64 x < 2047 * 2 ^ 52 → sqrt_of x ≡ of_bits binary64 (root_bits (count (to_bits binary64 x) * 2 ^ 1076))
   own-positive p h = root-positive x (subst (λ (v : Float). T (positive v)) (of_bits-to_bits binary64 x held) (bits_positive (to_bits binary64 x) p h))
 
-  pub own-other : 2047 * 2 ^ 52 < to_bits binary64 x → (to_bits binary64 x ≡ 2 ^ 63 → ⊥) → sqrtOf x ≡ nan
-  own-other h z = subst (λ (v : Float). sqrtOf v ≡ nan) (of_bits-to_bits binary64 x held) (root-other (to_bits binary64 x) h z (to_bits-lt binary64 x held))
+  pub own-other : 2047 * 2 ^ 52 < to_bits binary64 x → (to_bits binary64 x ≡ 2 ^ 63 → ⊥) → sqrt_of x ≡ nan
+  own-other h z = subst (λ (v : Float). sqrt_of v ≡ nan) (of_bits-to_bits binary64 x held) (root-other (to_bits binary64 x) h z (to_bits-lt binary64 x held))
 
   -- a pattern that is its own root
-  pub own-kept : (b : ℕ) → to_bits binary64 x ≡ b → sqrtOf (of_bits binary64 b) ≡ of_bits binary64 b → sqrtOf x ≡ x
-  own-kept b e h = subst (λ (v : Float). sqrtOf v ≡ v) (ap (of_bits binary64) (sym e) ∙ of_bits-to_bits binary64 x held) h
+  pub own-kept : (b : ℕ) → to_bits binary64 x ≡ b → sqrt_of (of_bits binary64 b) ≡ of_bits binary64 b → sqrt_of x ≡ x
+  own-kept b e h = subst (λ (v : Float). sqrt_of v ≡ v) (ap (of_bits binary64) (sym e) ∙ of_bits-to_bits binary64 x held) h
 
   pub positive-bits : T (positive x) → (0 < to_bits binary64 x) × (to_bits binary64 x < 2047 * 2 ^ 52)
   positive-bits p = bits-finite (to_bits binary64 x) (to_bits-lt binary64 x held) (subst⁻¹ (λ (v : Float). T (positive v)) (of_bits-to_bits binary64 x held) p)

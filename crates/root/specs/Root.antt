@@ -25,21 +25,21 @@ unfolding halfway
 below y b = ltb (halfway b * halfway b) y
 
 -- a with its lowest k bits, which are clear, set from the top: a bit stays where the pattern's halfway point, squared, is then still below y
-unfoldable pub setBits : ℕ → ℕ → ℕ → ℕ
+unfoldable pub set_bits : ℕ → ℕ → ℕ → ℕ
 unfolding below
-setBits zero y a = a
-setBits (suc k) y a = setBits k y (cond (below y (a + 2 ^ k)) (a + 2 ^ k) a)
+set_bits zero y a = a
+set_bits (suc k) y a = set_bits k y (cond (below y (a + 2 ^ k)) (a + 2 ^ k) a)
 
 -- the largest pattern whose point halfway to its lower neighbour, squared, is below y, which is in units of 2 ^ -2150
-unfoldable pub rootBits : ℕ → ℕ
-unfolding setBits
-rootBits y = setBits 63 y 0
+unfoldable pub root_bits : ℕ → ℕ
+unfolding set_bits
+root_bits y = set_bits 63 y 0
 
 -- Zero keeps its sign, +infinity is itself, NaN and negatives give NaN. A positive x is count x units of 2 ^ -1074, and 2 ^ 1076 times that of 2 ^ -2150.
-unfoldable pub sqrtOf : Float → Float
-unfolding rootBits
-sqrtOf nan = nan
-sqrtOf (inf s) = cond s nan (inf s)
-sqrtOf (fin s zero e) = fin s zero e
-sqrtOf (fin true (suc m) e) = nan
-sqrtOf (fin false (suc m) e) = of_bits binary64 (rootBits (count (to_bits binary64 (fin false (suc m) e)) * 2 ^ 1076))
+unfoldable pub sqrt_of : Float → Float
+unfolding root_bits
+sqrt_of nan = nan
+sqrt_of (inf s) = cond s nan (inf s)
+sqrt_of (fin s zero e) = fin s zero e
+sqrt_of (fin true (suc m) e) = nan
+sqrt_of (fin false (suc m) e) = of_bits binary64 (root_bits (count (to_bits binary64 (fin false (suc m) e)) * 2 ^ 1076))

@@ -1,10 +1,13 @@
 // The square root of an f64, correctly rounded. A positive x is a whole number times an even power of 2, so its root is
 // that of a whole number n: the r for which 4 n lies between the squares of 2 r - 1 and 2 r + 1, twice the points halfway
 // to r's neighbours. Floats give a guess, of whose accuracy nothing is claimed, and whole numbers settle it.
+
+#![tactic(auto)]
+
 ghost use Rattle.std.specs.Prelude.{◌≡◌, ◌+◌, ◌*◌, ◌/◌, ◌^◌, ◌≤◌, ◌<◌, not, T};
 ghost use Rattle.std.specs.Float.{binary64};
 ghost use Rattle.std.specs.Float.Ieee.{is_nan, of_bits};
-ghost use Rattle.root.specs.Root.{rootBits, sqrtOf};
+ghost use Rattle.root.specs.Root.{root_bits, sqrt_of};
 ghost use Rattle.root.specs.Whole.{Over, Under, Root};
 
 // The weight of the exponent's field in a bit pattern: 2 ^ 52.
@@ -90,7 +93,7 @@ fn guess(bits: u64) -> f64
 // The root of m * 2 ^ (k + 54), in units of 2 ^ -2150: that of m, or of 2 m for an odd k, at the exponent k / 2.
 fn root(m: u64, k: u64) -> f64
     requires { (2 ^ 52 ≤ m) × (m < 2 ^ 53) × (k < 3068) }
-    ensures { result ≡ of_bits binary64 (rootBits (m * 2 ^ (k + 54))) }
+    ensures { result ≡ of_bits binary64 (root_bits (m * 2 ^ (k + 54))) }
 {
     let odd = k % 2;
     let t = m * 256 * (odd + 1);
@@ -103,7 +106,7 @@ fn root(m: u64, k: u64) -> f64
 // The root of the subnormal b, brought up by its count of leading zeros.
 fn tiny(b: u64) -> f64
     requires { (0 < b) × (b < 2 ^ 52) }
-    ensures { result ≡ of_bits binary64 (rootBits (b * 2 ^ 1076)) }
+    ensures { result ≡ of_bits binary64 (root_bits (b * 2 ^ 1076)) }
 {
     let z = u64::leading_zeros(b) as u64;
     root(b << (z - 11), 1033 - z)
@@ -111,7 +114,7 @@ fn tiny(b: u64) -> f64
 
 // The square root, for every x. Zero keeps its sign, +infinity is itself, NaN and negatives give NaN.
 pub fn sqrt(x: f64) -> f64
-    ensures { result ≡ sqrtOf x }
+    ensures { result ≡ sqrt_of x }
 {
     if x != x {
         return 0.0 / 0.0;

@@ -6,48 +6,48 @@ use mathlib.Core.Path.{◌≡◌, refl, sym, ap, subst, ◌∙◌}
 use lib.Dec.{eqb}
 use lib.Ieee.{Float}
 use lib.ListN.{length}
-use Rattle.normal.specs.Normal.{productOf, diagMaxOf, dampedOf, movedOf}
-use Rattle.solver.specs.Reasons.{Reasoned, some, noPivot, notFinite, onSome, reasonedOf}
+use Rattle.normal.specs.Normal.{product_of, diag_max_of, damped_of, moved_of}
+use Rattle.solver.specs.Reasons.{Reasoned, some, no_pivot, not_finite, on_some, reasoned_of}
 use Rattle.rounds.specs.declared.Reason.TheVariants.{NotLess}
 use Rattle.rounds.specs.Holds.{FitHolds}
-use Rattle.rounds.specs.Solve.{Problem, State, Tried, Outcome, converged, failed, within, better, taken, harder, judged, orNext, trialAt, trialOf, tryOf, triesOf, begun, roundOf, polished, decided, ended, roundsOf, start_of, opened, solveOf}
+use Rattle.rounds.specs.Solve.{Problem, State, Tried, Outcome, converged, failed, within, better, taken, harder, judged, or_next, trial_at, trial_of, try_of, tries_of, begun, round_of, polished, decided, ended, rounds_of, start_of, opened, solve_of}
 
 module _ (P : Problem) (jacobian : List Float → List Float) where
   -- the residuals that the fit goes by are those of its coordinates
   abbrev Own : State → Type 0
   Own s = s.r ≡ P.values s.x
 
-  judged-own : (s : State) (f : List Float → List Float) (o : Reasoned (List Float)) → Own s → Own (judged s (onSome o (λ y. some (trialAt P (f y))))).state
-  judged-own s f (noPivot c) h = h
-  judged-own s f notFinite h = h
-  judged-own s f (some y) h = pick (better s (trialAt P (f y)))
+  judged-own : (s : State) (f : List Float → List Float) (o : Reasoned (List Float)) → Own s → Own (judged s (on_some o (λ y. some (trial_at P (f y))))).state
+  judged-own s f (no_pivot c) h = h
+  judged-own s f not_finite h = h
+  judged-own s f (some y) h = pick (better s (trial_at P (f y)))
     where
-      pick : (b : Bool) → Own (cond {A = Tried} b (record { improved = true; state = taken s (trialAt P (f y)) }) (record { improved = false; state = harder NotLess s })).state
+      pick : (b : Bool) → Own (cond {A = Tried} b (record { improved = true; state = taken s (trial_at P (f y)) }) (record { improved = false; state = harder NotLess s })).state
       pick true = refl
       pick false = h
 
-  try-own : (j a : List Float) (m : Float) (s : State) → Own s → Own (tryOf P j a m s).state
-  unfolding tryOf trialOf
+  try-own : (j a : List Float) (m : Float) (s : State) → Own s → Own (try_of P j a m s).state
+  unfolding try_of trial_of
   try-own j a m s h =
-      judged-own s (λ y. movedOf P.rows (length P.free) j y P.free s.x)
-      (reasonedOf P.rows (dampedOf P.rows s.mu m a) s.r) h
+      judged-own s (λ y. moved_of P.rows (length P.free) j y P.free s.x)
+      (reasoned_of P.rows (damped_of P.rows s.mu m a) s.r) h
 
-  next-own : (b : Bool) (s : State) (next : State → Tried) → ((u : State) → Own u → Own (next u).state) → Own s → Own (orNext b s next).state
+  next-own : (b : Bool) (s : State) (next : State → Tried) → ((u : State) → Own u → Own (next u).state) → Own s → Own (or_next b s next).state
   next-own true s next keeps h = h
   next-own false s next keeps h = keeps s h
 
-  tries-own : (j a : List Float) (m : Float) (k : ℕ) (s : State) → Own s → Own (triesOf P j a m k s).state
-  unfolding triesOf
+  tries-own : (j a : List Float) (m : Float) (k : ℕ) (s : State) → Own s → Own (tries_of P j a m k s).state
+  unfolding tries_of
   tries-own j a m zero s h = h
   tries-own j a m (suc k) s h =
-      next-own (tryOf P j a m s).improved (tryOf P j a m s).state (triesOf P j a m k) (tries-own j a m k) (try-own j a m s h)
+      next-own (try_of P j a m s).improved (try_of P j a m s).state (tries_of P j a m k) (tries-own j a m k) (try-own j a m s h)
 
-  pub round-own : (s : State) → Own (roundOf P jacobian s).state
-  unfolding roundOf
+  pub round-own : (s : State) → Own (round_of P jacobian s).state
+  unfolding round_of
   round-own s =
       let j = jacobian s.x in
-      let a = productOf P.rows (length P.free) j in
-      tries-own j a (diagMaxOf P.rows a) 12 (begun P s) refl
+      let a = product_of P.rows (length P.free) j in
+      tries-own j a (diag_max_of P.rows a) 12 (begun P s) refl
 
   -- a fit that came to o is one
   Sound : Outcome → Type 0
@@ -74,12 +74,12 @@ module _ (P : Problem) (jacobian : List Float → List Float) where
   ended-sound false true p s next w h keeps = keeps s h
   ended-sound false false p s next w h keeps = decided-sound s h
 
-  rounds-sound : (k : ℕ) (s : State) → Own s → Sound (roundsOf P jacobian k s)
-  unfolding roundsOf
+  rounds-sound : (k : ℕ) (s : State) → Own s → Sound (rounds_of P jacobian k s)
+  unfolding rounds_of
   rounds-sound zero s h = decided-sound s h
   rounds-sound (suc k) s h =
-      let t = roundOf P jacobian s in
-      ended-sound (within t.state.r) t.improved (eqb t.state.polish 0) t.state (roundsOf P jacobian k) refl (round-own s) (rounds-sound k)
+      let t = round_of P jacobian s in
+      ended-sound (within t.state.r) t.improved (eqb t.state.polish 0) t.state (rounds_of P jacobian k) refl (round-own s) (rounds-sound k)
 
   opened-sound : (w f : Bool) (x : List Float) → within (P.values x) ≡ w → Sound (opened P jacobian w f x)
   unfolding Sound
@@ -88,5 +88,5 @@ module _ (P : Problem) (jacobian : List Float → List Float) where
   opened-sound false false x w = rounds-sound 200 (start_of P x) refl
 
   pub fit-holds : FitHolds P jacobian
-  unfolding solveOf Sound
+  unfolding solve_of Sound
   fit-holds x x' i t e = subst Sound e (opened-sound (within (P.values x)) (eqb (length P.free) 0) x refl)

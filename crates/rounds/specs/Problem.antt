@@ -4,8 +4,8 @@ use Rattle.std.specs.Prelude.{ℕ, ◌+◌, Float, replicate}
 use mathlib.Core.List.{List, map, flat_map}
 use Rattle.floats.specs.Ops.{zero⁺}
 use Rattle.loops.specs.Turns.{fold}
-use Rattle.rows.specs.Column.{equationAt, rows_at}
-use Rattle.slopes.specs.Dense.{addEntry}
+use Rattle.rows.specs.Column.{equation_at, rows_at}
+use Rattle.slopes.specs.Dense.{add_entry}
 use Rattle.rows.specs.Entries.{Row}
 use Rattle.rows.specs.declared.Entry.{Entry}
 use Rattle.sketch.specs.Rows.{rows_of}
@@ -16,29 +16,29 @@ use Rattle.rounds.specs.declared.Fit.{Fit}
 use Rattle.rounds.specs.declared.Attempted.{Attempted}
 
 -- the Rust's `r.len()`, which the coordinates have no part in
-unfoldable pub moreRows : List Active → ℕ → ℕ → ℕ
-moreRows es n k = n + rows_of (equationAt es k)
+unfoldable pub more_rows : List Active → ℕ → ℕ → ℕ
+more_rows es n k = n + rows_of (equation_at es k)
 
-unfoldable pub rowCount : List Active → List ℕ → ℕ
-rowCount es chosen = fold (moreRows es) 0 chosen
+unfoldable pub row_count : List Active → List ℕ → ℕ
+row_count es chosen = fold (more_rows es) 0 chosen
 
 -- a row of the Jacobian, from +0.0
-unfoldable pub denseRow : List ℕ → List ℕ → ℕ → List Entry → List Float
-denseRow places columns n es = fold (addEntry places columns n 0) (replicate n zero⁺) es
+unfoldable pub dense_row : List ℕ → List ℕ → ℕ → List Entry → List Float
+dense_row places columns n es = fold (add_entry places columns n 0) (replicate n zero⁺) es
 
 module _ (es : List Active) (ls : List Line) (places chosen : List ℕ) where
-  unfoldable pub rowsFor : List Float → List Row
-  rowsFor x = flat_map (rows_at es ls places x) chosen
+  unfoldable pub rows_for : List Float → List Row
+  rows_for x = flat_map (rows_at es ls places x) chosen
 
-  unfoldable pub valuesAt : List Float → List Float
-  valuesAt x = map (λ (row : Row). row.value) (rowsFor x)
+  unfoldable pub values_at : List Float → List Float
+  values_at x = map (λ (row : Row). row.value) (rows_for x)
 
-  unfoldable pub jacobianAt : List ℕ → ℕ → List Float → List Float
-  jacobianAt columns n x = flat_map (λ (row : Row). denseRow places columns n row.entries) (rowsFor x)
+  unfoldable pub jacobian_at : List ℕ → ℕ → List Float → List Float
+  jacobian_at columns n x = flat_map (λ (row : Row). dense_row places columns n row.entries) (rows_for x)
 
-  -- `rows` is `rowCount es chosen`
-  abbrev pub problemOf : List ℕ → ℕ → Problem
-  problemOf free rows = record { values = valuesAt; rows = rows; free = free }
+  -- `rows` is `row_count es chosen`
+  abbrev pub problem_of : List ℕ → ℕ → Problem
+  problem_of free rows = record { values = values_at; rows = rows; free = free }
 
 -- the state, as the code holds it: coordinates and residuals in slices, the rest by value
 abbrev pub state_of : List Float → List Float → Fit → State
@@ -53,5 +53,5 @@ state_of x r f = record {
   why = f.why;
 }
 
-abbrev pub triedOf : List Float → List Float → Attempted → Tried
-triedOf x r t = record { improved = t.improved; state = state_of x r t.fit }
+abbrev pub tried_of : List Float → List Float → Attempted → Tried
+tried_of x r t = record { improved = t.improved; state = state_of x r t.fit }

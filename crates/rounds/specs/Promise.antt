@@ -2,14 +2,14 @@
 use Rattle.std.specs.Prelude.{ℕ, ◌*◌, Bool, true, false, cond, ◌||◌, List, ◌++◌, ◌≡◌, ltb, Float, length, drop, replicate}
 use Rattle.floats.specs.Only.{only-answer}
 use Rattle.floats.specs.Ops.{zero⁺}
-use Rattle.loops.specs.Numbers.{Meaning, refused, values, notConverged}
+use Rattle.loops.specs.Numbers.{Meaning, refused, values, not_converged}
 use Rattle.loops.specs.Numbers as number
 use Rattle.normal.specs.Half.{triangle}
 use Rattle.sketch.specs.declared.Active.{Active}
 use Rattle.sketch.specs.declared.Line.{Line}
 use Rattle.rounds.specs.Inside.{ended_of}
-use Rattle.rounds.specs.Problem.{rowCount, jacobianAt, problemOf}
-use Rattle.rounds.specs.Solve.{Outcome, converged, failed, solveOf}
+use Rattle.rounds.specs.Problem.{row_count, jacobian_at, problem_of}
+use Rattle.rounds.specs.Solve.{Outcome, converged, failed, solve_of}
 use Rattle.rounds.specs.declared.Ended.{Ended}
 use Rattle.rounds.specs.declared.FitEnding.{FitEnding}
 use Rattle.rounds.specs.declared.FitEnding.TheVariants.{Converged, Failed, TooMany, TooShort}
@@ -23,68 +23,68 @@ abbrev pub saying : FitEnding → ℕ → ℕ → Solved
 saying e i t = record { ending = e; iterations = i; tries = t }
 
 -- what a fit's outcome is to the caller: document 01's "converged" with its counts, or a failure with its reason and its counts
-abbrev pub answeredBy : Outcome → Solved
-answeredBy (converged x i t) = saying Converged i t
-answeredBy (failed w i t) = saying (Failed w) i t
+abbrev pub answered_by : Outcome → Solved
+answered_by (converged x i t) = saying Converged i t
+answered_by (failed w i t) = saying (Failed w) i t
 
 -- what each case of the answer says in document 01's terms, with the coordinates as they are afterwards: these, the iterations and
 -- the tries of a fit that converged, or 01's number
-abbrev pub meaningOf : List Float → Solved → Meaning (List Float × ℕ × ℕ)
-meaningOf x' s = by s.ending
+abbrev pub meaning_of : List Float → Solved → Meaning (List Float × ℕ × ℕ)
+meaning_of x' s = by s.ending
   where
     by : FitEnding → Meaning (List Float × ℕ × ℕ)
     by Converged = values (x', s.iterations, s.tries)
-    by (Failed w) = refused notConverged
-    by TooMany = refused number.tooMany
-    by TooShort = refused number.tooShort
+    by (Failed w) = refused not_converged
+    by TooMany = refused number.too_many
+    by TooShort = refused number.too_short
 
 abbrev pub meant : Outcome → Meaning (List Float × ℕ × ℕ)
 meant (converged x i t) = values (x, i, t)
-meant (failed w i t) = refused notConverged
+meant (failed w i t) = refused not_converged
 
-abbrev pub convergedBy : FitEnding → Bool
-convergedBy Converged = true
-convergedBy (Failed w) = false
-convergedBy TooMany = false
-convergedBy TooShort = false
+abbrev pub converged_by : FitEnding → Bool
+converged_by Converged = true
+converged_by (Failed w) = false
+converged_by TooMany = false
+converged_by TooShort = false
 
 -- only a fit that converged has coordinates
-abbrev pub coordinatesOf : List Float → Outcome → List Float
-coordinatesOf x (converged y i t) = y
-coordinatesOf x (failed w i t) = x
+abbrev pub coordinates_of : List Float → Outcome → List Float
+coordinates_of x (converged y i t) = y
+coordinates_of x (failed w i t) = x
 
 abbrev pub answer_of : Ended → Solved
 answer_of e = cond e.converged (saying Converged e.fit.iterations e.fit.tries) (saying (Failed e.fit.why) e.fit.iterations e.fit.tries)
 
 module _ (es : List Active) (ls : List Line) (places columns chosen free : List ℕ) where
-  abbrev pub outcomeOf : List Float → Outcome
-  outcomeOf x = solveOf (problemOf es ls places chosen free (rowCount es chosen)) (jacobianAt es ls places chosen columns (length free)) x
+  abbrev pub outcome_of : List Float → Outcome
+  outcome_of x = solve_of (problem_of es ls places chosen free (row_count es chosen)) (jacobian_at es ls places chosen columns (length free)) x
 
   module _ (x a b c : List Float) where
-    abbrev pub tooMany : Bool
-    tooMany = ltb 40 (length chosen) || ltb 80 (length free) || ltb 80 (length x)
+    abbrev pub too_many : Bool
+    too_many = ltb 40 (length chosen) || ltb 80 (length free) || ltb 80 (length x)
 
-    abbrev pub tooShort : Bool
-    tooShort = ltb (length a) 6400 || ltb (length b) 6400 || ltb (length c) 6400
+    abbrev pub too_short : Bool
+    too_short = ltb (length a) 6400 || ltb (length b) 6400 || ltb (length c) 6400
 
     -- a refusal, or what the call comes to
     abbrev pub checked : {A : Type 0} → A → A → A → A
-    checked three nine done = cond tooMany three (cond tooShort nine done)
+    checked three nine done = cond too_many three (cond too_short nine done)
 
     pub record Solves (x' a' b' c' : List Float) (s : Solved) : Type 0 where
-      pub answer : s ≡ checked (saying TooMany 0 0) (saying TooShort 0 0) (answeredBy (outcomeOf x))
-      pub meaning : meaningOf x' s ≡ checked (refused number.tooMany) (refused number.tooShort) (meant (outcomeOf x))
-      pub coordinates : x' ≡ checked x x (coordinatesOf x (outcomeOf x))
-      pub jacobian : a' ≡ checked a a (zeroed (rowCount es chosen * length free) a)
-      pub product : b' ≡ checked b b (zeroed (triangle (rowCount es chosen)) b)
-      pub copy : c' ≡ checked c c (zeroed (rowCount es chosen * rowCount es chosen) c)
+      pub answer : s ≡ checked (saying TooMany 0 0) (saying TooShort 0 0) (answered_by (outcome_of x))
+      pub meaning : meaning_of x' s ≡ checked (refused number.too_many) (refused number.too_short) (meant (outcome_of x))
+      pub coordinates : x' ≡ checked x x (coordinates_of x (outcome_of x))
+      pub jacobian : a' ≡ checked a a (zeroed (row_count es chosen * length free) a)
+      pub product : b' ≡ checked b b (zeroed (triangle (row_count es chosen)) b)
+      pub copy : c' ≡ checked c c (zeroed (row_count es chosen * row_count es chosen) c)
 
     -- what the fit comes to and leaves, where nothing is refused
     pub record Leaves (x' a' b' c' : List Float) (e : Ended) : Type 0 where
-      pub outcome : ended_of x' e ≡ outcomeOf x
-      pub jacobian : a' ≡ zeroed (rowCount es chosen * length free) a
-      pub product : b' ≡ zeroed (triangle (rowCount es chosen)) b
-      pub copy : c' ≡ zeroed (rowCount es chosen * rowCount es chosen) c
+      pub outcome : ended_of x' e ≡ outcome_of x
+      pub jacobian : a' ≡ zeroed (row_count es chosen * length free) a
+      pub product : b' ≡ zeroed (triangle (row_count es chosen)) b
+      pub copy : c' ≡ zeroed (row_count es chosen * row_count es chosen) c
 
     -- no second answer, and no other content of a lent place, meets the promise
     pub only_one : {x₁ a₁ b₁ c₁ x₂ a₂ b₂ c₂ : List Float} {s₁ s₂ : Solved} → Solves x₁ a₁ b₁ c₁ s₁ → Solves x₂ a₂ b₂ c₂ s₂

@@ -1,9 +1,9 @@
 -- Why a fit failed (document 02, K6): the code and the column of each reason, and exactly when each is given. Proved in proofs/Reasons.antt.
 use Rattle.std.specs.Prelude.{ℕ, zero, suc, ◌+◌, ◌≤◌, ◌<◌, Bool, true, false, List, ◌↔◌, ◌≢◌, ◌≡◌, eqb, Float, length}
-use Rattle.loops.specs.Turns.{Try, go, stop, tryTo}
-use Rattle.normal.specs.Normal.{productOf, diagMaxOf}
-use Rattle.solver.specs.Reasons.{Reasoned, some, noPivot, notFinite}
-use Rattle.rounds.specs.Solve.{Problem, State, Trial, Tried, failed, maxIter, maxTries, within, better, trialOf, tryOf, begun, polished, start_of, roundOf, solveOf}
+use Rattle.loops.specs.Turns.{Try, go, stop, try_to}
+use Rattle.normal.specs.Normal.{product_of, diag_max_of}
+use Rattle.solver.specs.Reasons.{Reasoned, some, no_pivot, not_finite}
+use Rattle.rounds.specs.Solve.{Problem, State, Trial, Tried, failed, max_iter, max_tries, within, better, trial_of, try_of, begun, polished, start_of, round_of, solve_of}
 use Rattle.rounds.specs.declared.FitEnding.{FitEnding}
 use Rattle.rounds.specs.declared.FitEnding.TheVariants.{Converged, Failed, TooMany, TooShort}
 use Rattle.rounds.specs.declared.Reason.{Reason}
@@ -17,12 +17,12 @@ code_of NotFinite = 3
 code_of NotLess = 4
 code_of Spent = 5
 
-abbrev pub namedColumn : Reason → ℕ
-namedColumn NothingFree = 0
-namedColumn (NoPivot c) = c
-namedColumn NotFinite = 0
-namedColumn NotLess = 0
-namedColumn Spent = 0
+abbrev pub named_column : Reason → ℕ
+named_column NothingFree = 0
+named_column (NoPivot c) = c
+named_column NotFinite = 0
+named_column NotLess = 0
+named_column Spent = 0
 
 -- those of an ending: 0 where the fit did not fail
 abbrev pub code_in : FitEnding → ℕ
@@ -31,37 +31,37 @@ code_in (Failed w) = code_of w
 code_in TooMany = 0
 code_in TooShort = 0
 
-abbrev pub namedColumnIn : FitEnding → ℕ
-namedColumnIn Converged = 0
-namedColumnIn (Failed w) = namedColumn w
-namedColumnIn TooMany = 0
-namedColumnIn TooShort = 0
+abbrev pub named_column_in : FitEnding → ℕ
+named_column_in Converged = 0
+named_column_in (Failed w) = named_column w
+named_column_in TooMany = 0
+named_column_in TooShort = 0
 
 module _ (P : Problem) (jacobian : List Float → List Float) where
   -- ---- a round's tries, none of which is taken
 
   -- a try of the round that is begun at s, which stands at u by then
-  abbrev pub tryIn : State → State → Tried
-  tryIn s u =
+  abbrev pub try_in : State → State → Tried
+  try_in s u =
       let j = jacobian s.x in
-      let a = productOf P.rows (length P.free) j in
-      tryOf P j a (diagMaxOf P.rows a) u
+      let a = product_of P.rows (length P.free) j in
+      try_of P j a (diag_max_of P.rows a) u
 
   -- and what its elimination leads to
-  abbrev pub trialIn : State → State → Reasoned Trial
-  trialIn s u =
+  abbrev pub trial_in : State → State → Reasoned Trial
+  trial_in s u =
       let j = jacobian s.x in
-      let a = productOf P.rows (length P.free) j in
-      trialOf P j a (diagMaxOf P.rows a) u.mu u.x u.r
+      let a = product_of P.rows (length P.free) j in
+      trial_of P j a (diag_max_of P.rows a) u.mu u.x u.r
 
   -- where k tries lead from u
-  unfoldable pub triedFrom : State → ℕ → State → State
-  triedFrom s zero u = u
-  triedFrom s (suc k) u = triedFrom s k (tryIn s u).state
+  unfoldable pub tried_from : State → ℕ → State → State
+  tried_from s zero u = u
+  tried_from s (suc k) u = tried_from s k (try_in s u).state
 
   -- where the round's try begins that k others came before
-  abbrev pub tryAt : State → ℕ → State
-  tryAt s k = triedFrom s k (begun P s)
+  abbrev pub try_at : State → ℕ → State
+  try_at s k = tried_from s k (begun P s)
 
   -- ---- the rounds
 
@@ -73,62 +73,62 @@ module _ (P : Problem) (jacobian : List Float → List Float) where
   onward false true spent s = go s
   onward false false spent s = stop
 
-  unfoldable pub nextRound : ℕ → State → Try State
-  nextRound k s =
-      let t = roundOf P jacobian s in
+  unfoldable pub next_round : ℕ → State → Try State
+  next_round k s =
+      let t = round_of P jacobian s in
       onward (within t.state.r) t.improved (eqb t.state.polish 0) t.state
 
   -- a fit from x begins a round at s that k others came before
   pub record Begins (x : List Float) (k : ℕ) (s : State) : Type 0 where
     pub outside : within (P.values x) ≡ false
     pub movable : length P.free ≢ 0
-    pub reached : tryTo k 0 nextRound (start_of P x) ≡ go s
+    pub reached : try_to k 0 next_round (start_of P x) ≡ go s
 
   -- a round in which all twelve tries come to nothing, outside the tolerance: it is the last, after i rounds and t tries
   pub record Stuck (x : List Float) (i t : ℕ) : Type 0 where
     pub before : ℕ
     pub at : State
     pub begins : Begins x before at
-    pub within-limit : before < maxIter
-    pub none : (k : ℕ) → k < maxTries → (tryIn at (tryAt at k)).improved ≡ false
+    pub within-limit : before < max_iter
+    pub none : (k : ℕ) → k < max_tries → (try_in at (try_at at k)).improved ≡ false
     pub outside : within (P.values at.x) ≡ false
     pub rounds : i ≡ before + 1
-    pub tries : t ≡ at.tries + maxTries
+    pub tries : t ≡ at.tries + max_tries
 
   -- the last round of all, which takes a try and is still outside the tolerance
   pub record Slow (x : List Float) (i t : ℕ) : Type 0 where
     pub before : ℕ
     pub at : State
     pub begins : Begins x before at
-    pub last : before + 1 ≡ maxIter
-    pub took : (roundOf P jacobian at).improved ≡ true
-    pub outside : within (roundOf P jacobian at).state.r ≡ false
-    pub rounds : i ≡ maxIter
-    pub tries : t ≡ (roundOf P jacobian at).state.tries
+    pub last : before + 1 ≡ max_iter
+    pub took : (round_of P jacobian at).improved ≡ true
+    pub outside : within (round_of P jacobian at).state.r ≡ false
+    pub rounds : i ≡ max_iter
+    pub tries : t ≡ (round_of P jacobian at).state.tries
 
   -- what the twelfth try's elimination leads to
   abbrev pub twelfth : State → Reasoned Trial
-  twelfth s = trialIn s (tryAt s 11)
+  twelfth s = trial_in s (try_at s 11)
 
   -- what each reason says of a fit from x that ended after i rounds and t tries: of the twelve tries the last one's counts
   abbrev pub Because : List Float → ℕ → ℕ → Reason → Type 0
   Because x i t NothingFree = (within (P.values x) ≡ false) × (length P.free ≡ 0) × (i ≡ 0) × (t ≡ 0)
-  Because x i t (NoPivot c) = (l : Stuck x i t) × (twelfth l.at ≡ noPivot c)
-  Because x i t NotFinite = (l : Stuck x i t) × (twelfth l.at ≡ notFinite)
-  Because x i t NotLess = (l : Stuck x i t) × (trial : Trial) × (twelfth l.at ≡ some trial) × (better (tryAt l.at 11) trial ≡ false)
+  Because x i t (NoPivot c) = (l : Stuck x i t) × (twelfth l.at ≡ no_pivot c)
+  Because x i t NotFinite = (l : Stuck x i t) × (twelfth l.at ≡ not_finite)
+  Because x i t NotLess = (l : Stuck x i t) × (trial : Trial) × (twelfth l.at ≡ some trial) × (better (try_at l.at 11) trial ≡ false)
   Because x i t Spent = Slow x i t
 
   -- a reason is given exactly when it holds
   abbrev pub WhyExactly : Type 0
-  WhyExactly = (x : List Float) (w : Reason) (i t : ℕ) → solveOf P jacobian x ≡ failed w i t ↔ Because x i t w
+  WhyExactly = (x : List Float) (w : Reason) (i t : ℕ) → solve_of P jacobian x ≡ failed w i t ↔ Because x i t w
 
   -- so a fit that failed says that nothing is free exactly when nothing is, names a column exactly with code 2, one of its rows, and
   -- where the iterations are spent there were as many as the limit
   pub record Tells (w : Reason) (i : ℕ) : Type 0 where
     pub nothing-free : w ≡ NothingFree ↔ length P.free ≡ 0
-    pub no-column : namedColumn w ≡ 0 ↔ code_of w ≢ 2
-    pub a-row : namedColumn w ≤ P.rows
-    pub spent : w ≡ Spent → i ≡ maxIter
+    pub no-column : named_column w ≡ 0 ↔ code_of w ≢ 2
+    pub a-row : named_column w ≤ P.rows
+    pub spent : w ≡ Spent → i ≡ max_iter
 
   abbrev pub TellsWhy : Type 0
-  TellsWhy = (x : List Float) (w : Reason) (i t : ℕ) → solveOf P jacobian x ≡ failed w i t → Tells w i
+  TellsWhy = (x : List Float) (w : Reason) (i t : ℕ) → solve_of P jacobian x ≡ failed w i t → Tells w i

@@ -3,12 +3,12 @@
 use Rattle.std.specs.Prelude.{ℕ, zero, suc, ◌+◌, ◌-◌, Bool, true, false, cond, ◌&&◌, List, eqb, Float, length}
 use Rattle.std.specs.Float.Ieee.{le, lt}
 use Rattle.std.specs.Float.Ieee.Scale.{finite}
-use Rattle.floats.specs.Largest.{maxAbsOf}
+use Rattle.floats.specs.Largest.{max_abs_of}
 use Rattle.floats.specs.Magnitude.{max_of}
 use Rattle.floats.specs.Ops.{◌⊗◌, ten, tenth, 1e-10, 1e-12, 1e-15}
-use Rattle.normal.specs.Normal.{productOf, diagMaxOf, dampedOf, movedOf}
-use Rattle.solver.specs.Reasons.{Reasoned, some, noPivot, notFinite, onSome, reasonedOf}
-use Rattle.solver.specs.Sums.{norm2Of}
+use Rattle.normal.specs.Normal.{product_of, diag_max_of, damped_of, moved_of}
+use Rattle.solver.specs.Reasons.{Reasoned, some, no_pivot, not_finite, on_some, reasoned_of}
+use Rattle.solver.specs.Sums.{norm2_of}
 use Rattle.rounds.specs.declared.Reason.{Reason}
 use Rattle.rounds.specs.declared.Reason.TheVariants.{NothingFree, NoPivot, NotFinite, NotLess, Spent}
 
@@ -37,18 +37,18 @@ pub data Outcome : Type 0 where
   failed : Reason → ℕ → ℕ → Outcome
 
 -- `MAX_ITER`, the tries of an iteration, `POLISH`
-abbrev pub maxIter : ℕ
-maxIter = 200
+abbrev pub max_iter : ℕ
+max_iter = 200
 
-abbrev pub maxTries : ℕ
-maxTries = 12
+abbrev pub max_tries : ℕ
+max_tries = 12
 
-abbrev pub polishSteps : ℕ
-polishSteps = 3
+abbrev pub polish_steps : ℕ
+polish_steps = 3
 
 -- max_abs(&r) <= tol
 abbrev pub within : List Float → Bool
-within r = le (maxAbsOf r) 1e-12
+within r = le (max_abs_of r) 1e-12
 
 -- what a try comes to: `xn`, `rn` and `cn`
 pub record Trial : Type 0 where
@@ -93,31 +93,31 @@ pub record Tried : Type 0 where
 
 abbrev pub judged : State → Reasoned Trial → Tried
 judged s (some t) = cond (better s t) (record { improved = true; state = taken s t }) (record { improved = false; state = harder NotLess s })
-judged s (noPivot c) = record { improved = false; state = harder (NoPivot c) s }
-judged s notFinite = record { improved = false; state = harder NotFinite s }
+judged s (no_pivot c) = record { improved = false; state = harder (NoPivot c) s }
+judged s not_finite = record { improved = false; state = harder NotFinite s }
 
 -- `break` where a try was taken, else the next
-abbrev pub orNext : Bool → State → (State → Tried) → Tried
-orNext true s next = record { improved = true; state = s }
-orNext false s next = next s
+abbrev pub or_next : Bool → State → (State → Tried) → Tried
+or_next true s next = record { improved = true; state = s }
+or_next false s next = next s
 
 module _ (P : Problem) where
-  abbrev pub trialAt : List Float → Trial
-  trialAt xn = record { x = xn; r = P.values xn; cost = norm2Of (P.values xn) }
+  abbrev pub trial_at : List Float → Trial
+  trial_at xn = record { x = xn; r = P.values xn; cost = norm2_of (P.values xn) }
 
   -- the trial of a try, with the Jacobian j, the product a and the largest m on its diagonal
-  unfoldable pub trialOf : List Float → List Float → Float → Float → List Float → List Float → Reasoned Trial
-  trialOf j a m mu x r =
-      onSome (reasonedOf P.rows (dampedOf P.rows mu m a) r)
-      (λ y. some (trialAt (movedOf P.rows (length P.free) j y P.free x)))
+  unfoldable pub trial_of : List Float → List Float → Float → Float → List Float → List Float → Reasoned Trial
+  trial_of j a m mu x r =
+      on_some (reasoned_of P.rows (damped_of P.rows mu m a) r)
+      (λ y. some (trial_at (moved_of P.rows (length P.free) j y P.free x)))
 
-  unfoldable pub tryOf : List Float → List Float → Float → State → Tried
-  tryOf j a m s = judged s (trialOf j a m s.mu s.x s.r)
+  unfoldable pub try_of : List Float → List Float → Float → State → Tried
+  try_of j a m s = judged s (trial_of j a m s.mu s.x s.r)
 
-  -- for _ in 0..12, `maxTries`
-  unfoldable pub triesOf : List Float → List Float → Float → ℕ → State → Tried
-  triesOf j a m zero s = record { improved = false; state = s }
-  triesOf j a m (suc k) s = let t = tryOf j a m s in orNext t.improved t.state (triesOf j a m k)
+  -- for _ in 0..12, `max_tries`
+  unfoldable pub tries_of : List Float → List Float → Float → ℕ → State → Tried
+  tries_of j a m zero s = record { improved = false; state = s }
+  tries_of j a m (suc k) s = let t = try_of j a m s in or_next t.improved t.state (tries_of j a m k)
 
   abbrev pub begun : State → State
   begun s = record {
@@ -162,33 +162,33 @@ module _ (P : Problem) where
   start_of x = record {
     x = x;
     r = P.values x;
-    cost = norm2Of (P.values x);
+    cost = norm2_of (P.values x);
     mu = 1e-10;
-    polish = polishSteps;
+    polish = polish_steps;
     iterations = 0;
     tries = 0;
     why = NothingFree;
   }
 
   module _ (jacobian : List Float → List Float) where
-    unfoldable pub roundOf : State → Tried
-    roundOf s =
+    unfoldable pub round_of : State → Tried
+    round_of s =
         let j = jacobian s.x in
-        let a = productOf P.rows (length P.free) j in
-        triesOf j a (diagMaxOf P.rows a) maxTries (begun s)
+        let a = product_of P.rows (length P.free) j in
+        tries_of j a (diag_max_of P.rows a) max_tries (begun s)
 
     -- for _ in 0..MAX_ITER
-    unfoldable pub roundsOf : ℕ → State → Outcome
-    roundsOf zero s = decided s
-    roundsOf (suc k) s =
-        let t = roundOf s in
-        ended (within t.state.r) t.improved (eqb t.state.polish 0) t.state (roundsOf k)
+    unfoldable pub rounds_of : ℕ → State → Outcome
+    rounds_of zero s = decided s
+    rounds_of (suc k) s =
+        let t = round_of s in
+        ended (within t.state.r) t.improved (eqb t.state.polish 0) t.state (rounds_of k)
 
     -- converged at the start, even with nothing free; else nothing free; else the rounds
     abbrev pub opened : Bool → Bool → List Float → Outcome
     opened true fixed x = converged x 0 0
     opened false true x = failed NothingFree 0 0
-    opened false false x = roundsOf maxIter (start_of x)
+    opened false false x = rounds_of max_iter (start_of x)
 
-    unfoldable pub solveOf : List Float → Outcome
-    solveOf x = opened (within (P.values x)) (eqb (length P.free) 0) x
+    unfoldable pub solve_of : List Float → Outcome
+    solve_of x = opened (within (P.values x)) (eqb (length P.free) 0) x

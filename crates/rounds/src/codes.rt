@@ -1,6 +1,6 @@
 // Document 02's code and column of how a fit ended: 0 where it did not fail.
 ghost use Rattle.std.specs.Prelude.{◌≡◌};
-ghost use Rattle.rounds.specs.Reasons.{code_of, namedColumn, code_in, namedColumnIn};
+ghost use Rattle.rounds.specs.Reasons.{code_of, named_column, code_in, named_column_in};
 
 use crate::{FitEnding, Reason};
 
@@ -17,7 +17,7 @@ fn code_of(why: Reason) -> usize
 }
 
 fn column_of(why: Reason) -> usize
-    ensures { result ≡ namedColumn why }
+    ensures { result ≡ named_column why }
 {
     match why {
         Reason::NothingFree => 0,
@@ -40,7 +40,7 @@ pub fn code(ending: FitEnding) -> usize
 }
 
 pub fn named_column(ending: FitEnding) -> usize
-    ensures { result ≡ namedColumnIn ending }
+    ensures { result ≡ named_column_in ending }
 {
     match ending {
         FitEnding::Converged => 0,

@@ -1,4 +1,7 @@
 // The damped fit of chosen equations (solver.rs, `solve`): rounds of tries, each a step that is taken where it lowers the cost.
+
+#![tactic(auto)]
+
 mod attempt;
 mod codes;
 mod opening;
@@ -7,7 +10,7 @@ mod state;
 mod tries;
 
 ghost use Rattle.std.specs.Prelude.{◌≡◌};
-ghost use Rattle.rounds.specs.Promise.{convergedBy};
+ghost use Rattle.rounds.specs.Promise.{converged_by};
 
 pub use codes::{code, named_column};
 use members::{Coordinates, Equations};
@@ -95,7 +98,7 @@ pub struct Solved {
 }
 
 pub fn converged(ending: FitEnding) -> bool
-    ensures { result ≡ convergedBy ending }
+    ensures { result ≡ converged_by ending }
 {
     match ending {
         FitEnding::Converged => true,

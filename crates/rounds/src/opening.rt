@@ -1,9 +1,9 @@
 // How a fit begins: converged at its start, nothing free, or the rounds; and the public call.
 ghost use Rattle.std.specs.Prelude.{◌≡◌, ◌≤◌, length};
-ghost use Rattle.members.specs.Lists.{numbersOf};
-ghost use Rattle.members.specs.Movable.{indicesOf};
+ghost use Rattle.members.specs.Lists.{numbers_of};
+ghost use Rattle.members.specs.Movable.{indices_of};
 ghost use Rattle.rounds.specs.Inside.{Shapes, Matrices, Own, Begun, ended_of};
-ghost use Rattle.rounds.specs.Promise.{Solves, Leaves, outcomeOf, answer_of, saying};
+ghost use Rattle.rounds.specs.Promise.{Solves, Leaves, outcome_of, answer_of, saying};
 
 use crate::round::{all_rounds, within};
 use crate::{Ended, Fit, FitEnding, Posed, Solved};
@@ -25,7 +25,7 @@ fn opened(
 ) -> Ended
     requires { Shapes equations chosen.now free.now j.old r.old × Matrices r.old h.old w.old × (length x.old ≤ 80)
         × Own equations lines places.now chosen.now x.old r.old }
-    ensures { ended_of x.new result ≡ outcomeOf equations lines places.now columns.now chosen.now free.now x.old }
+    ensures { ended_of x.new result ≡ outcome_of equations lines places.now columns.now chosen.now free.now x.old }
 {
     if within(r) {
         return Ended {
@@ -64,7 +64,7 @@ fn first_values(
 // lent from here, once a fit: a function that lends a table of a value works on a copy of it.
 fn in_areas(p: Posed, x: &mut [f64], a: &mut [f64], b: &mut [f64], c: &mut [f64]) -> Ended
     requires { (length x.old ≤ 80) × (6400 ≤ length a.old) × (6400 ≤ length b.old) × (6400 ≤ length c.old) }
-    ensures { Leaves p.equations p.lines p.places p.columns (numbersOf p.chosen.0) (indicesOf p.free) x.old a.old b.old c.old
+    ensures { Leaves p.equations p.lines p.places p.columns (numbers_of p.chosen.0) (indices_of p.free) x.old a.old b.old c.old
         x.new a.new b.new c.new result }
 {
     let equations = p.equations;
@@ -133,7 +133,7 @@ fn refused(ending: FitEnding) -> Solved
 
 // Fits the coordinates x to the chosen equations by moving the free ones. Where the fit fails, x is as it was.
 pub fn solve(p: Posed, x: &mut [f64], a: &mut [f64], b: &mut [f64], c: &mut [f64]) -> Solved
-    ensures { Solves p.equations p.lines p.places p.columns (numbersOf p.chosen.0) (indicesOf p.free) x.old a.old b.old c.old
+    ensures { Solves p.equations p.lines p.places p.columns (numbers_of p.chosen.0) (indices_of p.free) x.old a.old b.old c.old
         x.new a.new b.new c.new result }
 {
     if 80 < x.len() {

@@ -1,8 +1,8 @@
 // The rounds.
 ghost use Rattle.std.specs.Prelude.{◌≡◌, ◌≤◌, length};
 ghost use Rattle.rounds.specs.Inside.{Shapes, Matrices, Own, step_of, ended_of};
-ghost use Rattle.rounds.specs.Problem.{rowCount, jacobianAt, problemOf, state_of};
-ghost use Rattle.rounds.specs.Solve.{within, roundsOf};
+ghost use Rattle.rounds.specs.Problem.{row_count, jacobian_at, problem_of, state_of};
+ghost use Rattle.rounds.specs.Solve.{within, rounds_of};
 
 use crate::tries::all_tries;
 use crate::{Attempted, Ended, Fit, Step};
@@ -61,8 +61,8 @@ pub(crate) fn all_rounds(
     requires { Shapes equations chosen.now free.now j.old r.old × Matrices r.old h.old w.old × (length x.old ≤ 80)
         × Own equations lines places.now chosen.now x.old r.old × (fit.iterations ≤ 0) × (fit.tries ≤ 0) }
     ensures { ended_of x.new result
-        ≡ roundsOf (problemOf equations lines places.now chosen.now free.now (rowCount equations chosen.now))
-        (jacobianAt equations lines places.now chosen.now columns.now (length free.now)) 200 (state_of x.old r.old fit) }
+        ≡ rounds_of (problem_of equations lines places.now chosen.now free.now (row_count equations chosen.now))
+        (jacobian_at equations lines places.now chosen.now columns.now (length free.now)) 200 (state_of x.old r.old fit) }
 {
     let n = x.len();
     let rows = r.len();

@@ -1,6 +1,6 @@
 // The steps of the fit's state.
 ghost use Rattle.std.specs.Prelude.{◌≡◌, ◌<◌};
-ghost use Rattle.rounds.specs.Inside.{startedFit, takenFit, harderFit, begunFit, polishedFit};
+ghost use Rattle.rounds.specs.Inside.{started_fit, taken_fit, harder_fit, begun_fit, polished_fit};
 
 use crate::{Fit, Reason};
 
@@ -23,7 +23,7 @@ impl Fit {
     pub const HARDER: f64 = 10.0;
 
     pub fn start(cost: f64) -> Fit
-        ensures { result ≡ startedFit cost }
+        ensures { result ≡ started_fit cost }
     {
         Fit {
             cost,
@@ -38,7 +38,7 @@ impl Fit {
     // A round begins.
     pub(crate) fn begun(self) -> Fit
         requires { self.iterations < 4096 }
-        ensures { result ≡ begunFit self }
+        ensures { result ≡ begun_fit self }
     {
         let why = self.why;
         Fit {
@@ -54,7 +54,7 @@ impl Fit {
     // A try was taken.
     pub(crate) fn taken(self, cost: f64) -> Fit
         requires { self.tries < 4096 }
-        ensures { result ≡ takenFit self cost }
+        ensures { result ≡ taken_fit self cost }
     {
         Fit {
             cost,
@@ -69,7 +69,7 @@ impl Fit {
     // A try was not taken, for this reason.
     pub(crate) fn harder(self, why: Reason) -> Fit
         requires { self.tries < 4096 }
-        ensures { result ≡ harderFit why self }
+        ensures { result ≡ harder_fit why self }
     {
         Fit {
             cost: self.cost,
@@ -84,7 +84,7 @@ impl Fit {
     // A polishing step is spent.
     pub(crate) fn polished(self) -> Fit
         requires { 0 < self.polish }
-        ensures { result ≡ polishedFit self }
+        ensures { result ≡ polished_fit self }
     {
         let why = self.why;
         Fit {

@@ -1,7 +1,7 @@
 // The damping attempts of a round.
 ghost use Rattle.std.specs.Prelude.{◌≡◌, ◌≤◌};
-ghost use Rattle.rounds.specs.Inside.{begunFit, largestIn, triesAt, Shapes, Matrices, Trying};
-ghost use Rattle.rounds.specs.Problem.{rowCount, problemOf, state_of, triedOf};
+ghost use Rattle.rounds.specs.Inside.{begun_fit, largest_in, tries_at, Shapes, Matrices, Trying};
+ghost use Rattle.rounds.specs.Problem.{row_count, problem_of, state_of, tried_of};
 
 use crate::attempt::{eliminated, lack, one_try};
 use crate::{Attempted, Fit};
@@ -10,7 +10,7 @@ use sketch::{Active, Line};
 
 // The largest number on the diagonal; a product has one.
 fn largest(l: Largest) -> f64
-    ensures { result ≡ largestIn l }
+    ensures { result ≡ largest_in l }
 {
     match l {
         Largest::Of(m) => m,
@@ -36,8 +36,8 @@ pub(crate) fn all_tries(
     fit: Fit,
 ) -> Attempted
     requires { Shapes equations chosen.now free.now j.now r.old × Matrices r.old h.old w.old × Trying x.old r.old xn.old rn.old × (fit.iterations ≤ 200) × (fit.tries ≤ 2400) }
-    ensures { triedOf x.new r.new result
-        ≡ triesAt (problemOf equations lines places.now chosen.now free.now (rowCount equations chosen.now)) j.now (state_of x.old r.old (begunFit fit)) }
+    ensures { tried_of x.new r.new result
+        ≡ tries_at (problem_of equations lines places.now chosen.now free.now (row_count equations chosen.now)) j.now (state_of x.old r.old (begun_fit fit)) }
 {
     let rows = r.len();
     normal::product(j, h, rows, free.len());

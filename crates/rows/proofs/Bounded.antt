@@ -9,38 +9,38 @@ use Rattle.sketch.specs.Rows.{rows_of}
 use Rattle.sketch.specs.declared.Equation.{Equation}
 use Rattle.sketch.specs.declared.Line.{Line}
 use Rattle.sketch.specs.declared.PointNo.{PointNo}
-use Rattle.rows.specs.Ends.{endsOf, rowsGiven}
+use Rattle.rows.specs.Ends.{ends_of, rows_given}
 use Rattle.rows.specs.Kinds.{
-  coincidentOf,
-  levelKindOf,
-  parallelOf,
-  perpendicularOf,
-  collinearOf,
+  coincident_of,
+  level_kind_of,
+  parallel_of,
+  perpendicular_of,
+  collinear_of,
   equal_of,
   distance_of,
-  axisDistanceOf,
+  axis_distance_of,
   length_of,
-  pointLineOf,
-  arcEndsOf,
-  radiusKindOf,
-  lineCircleOf,
-  circleCircleOf,
-  lineArcAtOf,
-  arcArcAtOf,
-  midpointOf,
-  arcMidpointOf,
-  symmetricOf,
-  equalRadiusOf,
-  rowsOfEquation,
+  point_line_of,
+  arc_ends_of,
+  radius_kind_of,
+  line_circle_of,
+  circle_circle_of,
+  line_arc_at_of,
+  arc_arc_at_of,
+  midpoint_of,
+  arc_midpoint_of,
+  symmetric_of,
+  equal_radius_of,
+  rows_of_equation,
 }
 use Rattle.rows.specs.declared.Ends.{Ends}
 use Rattle.rows.proofs.Given.{given}
 
 module _ (ends : Ends) (at : PointNo → Vec2) where
-  rows-given : (e : Equation) → length (rowsGiven ends at e) ≡ rows_of e
+  rows-given : (e : Equation) → length (rows_given ends at e) ≡ rows_of e
   unfolding
-      rows_of rowsGiven coincidentOf levelKindOf parallelOf perpendicularOf collinearOf equal_of distance_of axisDistanceOf length_of pointLineOf
-      arcEndsOf radiusKindOf lineCircleOf circleCircleOf lineArcAtOf arcArcAtOf midpointOf arcMidpointOf symmetricOf equalRadiusOf
+      rows_of rows_given coincident_of level_kind_of parallel_of perpendicular_of collinear_of equal_of distance_of axis_distance_of length_of point_line_of
+      arc_ends_of radius_kind_of line_circle_of circle_circle_of line_arc_at_of arc_arc_at_of midpoint_of arc_midpoint_of symmetric_of equal_radius_of
   rows-given (Equation.Coincident a b) = refl
   rows-given (Equation.Level a b axis) = refl
   rows-given (Equation.Parallel i j) = refl
@@ -63,9 +63,9 @@ module _ (ends : Ends) (at : PointNo → Vec2) where
   rows-given (Equation.Symmetric p q l) = refl
   rows-given (Equation.EqualRadius c₁ f₁ c₂ f₂) = refl
 
-  pub bounded : (e : Equation) → length (rowsGiven ends at e) ≤ 2
+  pub bounded : (e : Equation) → length (rows_given ends at e) ≤ 2
   bounded e = rw (rows-given e) (two-at-most e)
 
 module _ (ls : List Line) (at : PointNo → Vec2) where
-  pub rows-of : (e : Equation) → length (rowsOfEquation ls at e) ≡ rows_of e
-  rows-of e = sym (ap length (given ls at e)) ∙ rows-given (endsOf ls e) at e
+  pub rows-of : (e : Equation) → length (rows_of_equation ls at e) ≡ rows_of e
+  rows-of e = sym (ap length (given ls at e)) ∙ rows-given (ends_of ls e) at e

@@ -5,13 +5,13 @@ use Rattle.plane.specs.declared.Vec2.{Vec2}
 use Rattle.sketch.specs.declared.Equation.{Equation}
 use Rattle.sketch.specs.declared.Line.{Line}
 use Rattle.sketch.specs.declared.PointNo.{PointNo}
-use Rattle.rows.specs.Kinds.{rowsOfEquation}
-use Rattle.rows.specs.Ends.{endsOf, rowsGiven}
+use Rattle.rows.specs.Kinds.{rows_of_equation}
+use Rattle.rows.specs.Ends.{ends_of, rows_given}
 
 -- with the ends that a build has they are the equation's rows
 module _ (ls : List Line) (at : PointNo → Vec2) where
-  pub given : (e : Equation) → rowsGiven (endsOf ls e) at e ≡ rowsOfEquation ls at e
-  unfolding rowsGiven rowsOfEquation
+  pub given : (e : Equation) → rows_given (ends_of ls e) at e ≡ rows_of_equation ls at e
+  unfolding rows_given rows_of_equation
   given (Equation.Coincident a b) = refl
   given (Equation.Level a b axis) = refl
   given (Equation.Parallel i j) = refl

@@ -1,87 +1,87 @@
 -- The lines that an equation names, looked up before its rows are worked out; and the rows from their ends.
 use Rattle.std.specs.Prelude.{ℕ, cond, List, [], ltb, get_or}
 use Rattle.plane.specs.declared.Vec2.{Vec2}
-use Rattle.sketch.specs.Involved.{noLine, line_at, linesNamed}
+use Rattle.sketch.specs.Involved.{no_line, line_at, lines_named}
 use Rattle.sketch.specs.declared.Equation.{Equation}
 use Rattle.sketch.specs.declared.Line.{Line}
 use Rattle.sketch.specs.declared.LineNo.{LineNo}
 use Rattle.sketch.specs.declared.PointNo.{PointNo}
 use Rattle.rows.specs.Entries.{Row}
 use Rattle.rows.specs.Kinds.{
-  coincidentOf,
-  levelKindOf,
-  parallelOf,
-  perpendicularOf,
-  collinearOf,
+  coincident_of,
+  level_kind_of,
+  parallel_of,
+  perpendicular_of,
+  collinear_of,
   equal_of,
   distance_of,
-  axisDistanceOf,
+  axis_distance_of,
   length_of,
-  pointLineOf,
-  arcEndsOf,
-  radiusKindOf,
-  lineCircleOf,
-  circleCircleOf,
-  lineArcAtOf,
-  arcArcAtOf,
-  midpointOf,
-  arcMidpointOf,
-  symmetricOf,
-  equalRadiusOf,
+  point_line_of,
+  arc_ends_of,
+  radius_kind_of,
+  line_circle_of,
+  circle_circle_of,
+  line_arc_at_of,
+  arc_arc_at_of,
+  midpoint_of,
+  arc_midpoint_of,
+  symmetric_of,
+  equal_radius_of,
 }
 use Rattle.rows.specs.declared.Ends.{Ends}
 use Rattle.rows.specs.declared.LineNos.{LineNos}
 
 -- ---- the numbers of an equation's lines: a kind with one line has it first, and line 0 stands where no line is named
 
-abbrev pub bothOf : LineNo → LineNo → LineNos
-bothOf i j = record { first = i; second = j }
+abbrev pub both_of : LineNo → LineNo → LineNos
+both_of i j = record { first = i; second = j }
 
-abbrev pub onlyOf : LineNo → LineNos
-onlyOf l = bothOf l (record { 0 = 0 })
+abbrev pub only_of : LineNo → LineNos
+only_of l = both_of l (record { 0 = 0 })
 
-abbrev pub neitherOf : LineNos
-neitherOf = onlyOf (record { 0 = 0 })
+abbrev pub neither_of : LineNos
+neither_of = only_of (record { 0 = 0 })
 
-abbrev pub lineNosOf : Equation → LineNos
-lineNosOf e = bothOf (get_or (linesNamed e) 0 (record { 0 = 0 })) (get_or (linesNamed e) 1 (record { 0 = 0 }))
+abbrev pub line_nos_of : Equation → LineNos
+line_nos_of e = both_of (get_or (lines_named e) 0 (record { 0 = 0 })) (get_or (lines_named e) 1 (record { 0 = 0 }))
 
 -- ---- and their ends: as the build has them, and as the code finds them among 40 lines
 
-abbrev pub endsOf : List Line → Equation → Ends
-endsOf ls e = record { first = line_at ls (lineNosOf e).first; second = line_at ls (lineNosOf e).second }
+abbrev pub ends_of : List Line → Equation → Ends
+ends_of ls e = record { first = line_at ls (line_nos_of e).first; second = line_at ls (line_nos_of e).second }
 
 abbrev pub place_of : LineNo → ℕ
 place_of l = cond (ltb l.0 40) l.0 0
 
 abbrev pub end_of : LineNo → Line → Line
-end_of l at = cond (ltb l.0 40) at noLine
+end_of l at = cond (ltb l.0 40) at no_line
 
-abbrev pub foundOf : LineNos → Line → Line → Ends
-foundOf n i j = record { first = end_of n.first i; second = end_of n.second j }
+abbrev pub found_of : LineNos → Line → Line → Ends
+found_of n i j = record { first = end_of n.first i; second = end_of n.second j }
 
 -- ---- the rows, where the ends are given
 
 module _ (ends : Ends) (at : PointNo → Vec2) where
-  unfoldable pub rowsGiven : Equation → List Row
-  rowsGiven (Equation.Coincident a b) = coincidentOf at a b
-  rowsGiven (Equation.Level a b axis) = levelKindOf at a b axis
-  rowsGiven (Equation.Parallel i j) = parallelOf at ends.first ends.second
-  rowsGiven (Equation.Perpendicular i j) = perpendicularOf at ends.first ends.second
-  rowsGiven (Equation.Collinear i j) = collinearOf at ends.first ends.second
-  rowsGiven (Equation.Equal i j) = equal_of at ends.first ends.second
-  rowsGiven Equation.Held = []
-  rowsGiven (Equation.Distance a b value) = distance_of at a b value
-  rowsGiven (Equation.AxisDistance a b axis value side) = axisDistanceOf at a b axis value side
-  rowsGiven (Equation.Length l value) = length_of at ends.first value
-  rowsGiven (Equation.PointLine p l value side) = pointLineOf at p ends.first value side
-  rowsGiven (Equation.ArcEnds c f t) = arcEndsOf at c f t
-  rowsGiven (Equation.Radius c f value) = radiusKindOf at c f value
-  rowsGiven (Equation.LineCircle l c rad side) = lineCircleOf at ends.first c rad side
-  rowsGiven (Equation.CircleCircle c₁ r₁ c₂ r₂ contact) = circleCircleOf at c₁ r₁ c₂ r₂ contact
-  rowsGiven (Equation.LineArcAt l c p) = lineArcAtOf at ends.first c p
-  rowsGiven (Equation.ArcArcAt c₁ c₂ p) = arcArcAtOf at c₁ c₂ p
-  rowsGiven (Equation.Midpoint p l) = midpointOf at p ends.first
-  rowsGiven (Equation.ArcMidpoint p c f t) = arcMidpointOf at p c f t
-  rowsGiven (Equation.Symmetric p q l) = symmetricOf at p q ends.first
-  rowsGiven (Equation.EqualRadius c₁ f₁ c₂ f₂) = equalRadiusOf at c₁ f₁ c₂ f₂
+  unfoldable pub rows_given : Equation → List Row
+  rows_given (Equation.Coincident a b) = coincident_of at a b
+  rows_given (Equation.Level a b axis) = level_kind_of at a b axis
+  rows_given (Equation.Parallel i j) = parallel_of at ends.first ends.second
+  rows_given (Equation.Perpendicular i j) = perpendicular_of at ends.first ends.second
+  rows_given (Equation.Collinear i j) = collinear_of at ends.first ends.second
+  rows_given (Equation.Equal i j) = equal_of at ends.first ends.second
+  rows_given Equation.Held = []
+  rows_given (Equation.Distance a b value) = distance_of at a b value
+  rows_given (Equation.AxisDistance a b axis value side) = axis_distance_of at a b axis value side
+  rows_given (Equation.Length l value) = length_of at ends.first value
+  rows_given (Equation.PointLine p l value side) = point_line_of at p ends.first value side
+  rows_given (Equation.ArcEnds c f t) = arc_ends_of at c f t
+  rows_given (Equation.Radius c f value) = radius_kind_of at c f value
+  rows_given (Equation.LineCircle l c rad side) = line_circle_of at ends.first c rad side
+  rows_given (Equation.CircleCircle c₁ r₁ c₂ r₂ contact) = circle_circle_of at c₁ r₁ c₂ r₂ contact
+  rows_given (Equation.LineArcAt l c p) = line_arc_at_of at ends.first c p
+  rows_given (Equation.ArcArcAt c₁ c₂ p) = arc_arc_at_of at c₁ c₂ p
+  rows_given (Equation.Midpoint p l) = midpoint_of at p ends.first
+  rows_given (Equation.ArcMidpoint p c f t) = arc_midpoint_of at p c f t
+  rows_given (Equation.Symmetric p q l) = symmetric_of at p q ends.first
+  rows_given (Equation.EqualRadius c₁ f₁ c₂ f₂) = equal_radius_of at c₁ f₁ c₂ f₂

@@ -1,5 +1,8 @@
 // The residuals of the equations at given coordinates (equations.rs, `residuals`), and where points and lines are there. A
 // point's place among the group's points comes from a table.
+
+#![tactic(auto)]
+
 mod answer;
 mod lines;
 pub mod located;

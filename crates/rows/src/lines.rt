@@ -1,13 +1,13 @@
 // The lines that an equation names. The loop that holds the lines looks them up: a call that takes the lines by value and indexes
 // them copies all 40, so an equation's work takes the ends of its own lines alone.
 ghost use Rattle.std.specs.Prelude.{◌≡◌, ◌<◌};
-ghost use Rattle.rows.specs.Ends.{bothOf, onlyOf, neitherOf, lineNosOf, place_of, end_of, foundOf};
+ghost use Rattle.rows.specs.Ends.{both_of, only_of, neither_of, line_nos_of, place_of, end_of, found_of};
 
 use crate::{Ends, LineNos};
 use sketch::{Equation, Line, LineNo, PointNo};
 
 fn both(i: LineNo, j: LineNo) -> LineNos
-    ensures { result ≡ bothOf i j }
+    ensures { result ≡ both_of i j }
 {
     LineNos {
         first: i,
@@ -16,20 +16,20 @@ fn both(i: LineNo, j: LineNo) -> LineNos
 }
 
 fn only(l: LineNo) -> LineNos
-    ensures { result ≡ onlyOf l }
+    ensures { result ≡ only_of l }
 {
     both(l, LineNo(0))
 }
 
 fn neither() -> LineNos
-    ensures { result ≡ neitherOf }
+    ensures { result ≡ neither_of }
 {
     both(LineNo(0), LineNo(0))
 }
 
 // The numbers of an equation's lines.
 pub fn lines_of(e: Equation) -> LineNos
-    ensures { result ≡ lineNosOf e }
+    ensures { result ≡ line_nos_of e }
 {
     match e {
         Equation::Coincident(_, _) => neither(),
@@ -79,7 +79,7 @@ fn end_of(l: LineNo, at: Line) -> Line
 
 // The ends of an equation's lines, from what stands at the places of the two.
 pub fn ends_of(n: LineNos, i: Line, j: Line) -> Ends
-    ensures { result ≡ foundOf n i j }
+    ensures { result ≡ found_of n i j }
 {
     Ends {
         first: end_of(n.first, i),

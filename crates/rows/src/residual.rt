@@ -1,8 +1,8 @@
 // The residuals of one equation, kind by kind.
 ghost use Rattle.std.specs.Prelude.{◌≡◌, [], ◌∷◌};
 ghost use Rattle.rows.specs.Entries.{values_of, emit};
-ghost use Rattle.rows.specs.Ends.{rowsGiven};
-ghost use Rattle.rows.specs.Kinds.{radiusOf, coincidentOf, levelKindOf, parallelOf, perpendicularOf, collinearOf, equal_of, distance_of, axisDistanceOf, length_of, pointLineOf, arcEndsOf, radiusKindOf, lineCircleOf, circleCircleOf, lineArcAtOf, arcArcAtOf, midpointOf, arcMidpointOf, symmetricOf, equalRadiusOf};
+ghost use Rattle.rows.specs.Ends.{rows_given};
+ghost use Rattle.rows.specs.Kinds.{radius_of, coincident_of, level_kind_of, parallel_of, perpendicular_of, collinear_of, equal_of, distance_of, axis_distance_of, length_of, point_line_of, arc_ends_of, radius_kind_of, line_circle_of, circle_circle_of, line_arc_at_of, arc_arc_at_of, midpoint_of, arc_midpoint_of, symmetric_of, equal_radius_of};
 ghost use Rattle.rows.specs.Located.{at_of};
 
 use crate::Ends;
@@ -43,7 +43,7 @@ fn two(v: f64, w: f64) -> Values
 
 // The radius of a circle around c.
 fn radius_of(places: &[u8], x: &[f64], rad: Rad, c: PointNo) -> f64
-    ensures { result ≡ radiusOf (at_of places.now x.now) rad c }
+    ensures { result ≡ radius_of (at_of places.now x.now) rad c }
 {
     match rad {
         Rad::Point(p) => apart(places, x, c, p),
@@ -52,7 +52,7 @@ fn radius_of(places: &[u8], x: &[f64], rad: Rad, c: PointNo) -> f64
 }
 
 fn coincident(places: &[u8], x: &[f64], a: PointNo, b: PointNo) -> Values
-    ensures { result ≡ values_of (coincidentOf (at_of places.now x.now) a b) }
+    ensures { result ≡ values_of (coincident_of (at_of places.now x.now) a b) }
 {
     let pa = at(places, x, a);
     let pb = at(places, x, b);
@@ -60,13 +60,13 @@ fn coincident(places: &[u8], x: &[f64], a: PointNo, b: PointNo) -> Values
 }
 
 fn level(places: &[u8], x: &[f64], a: PointNo, b: PointNo, axis: usize) -> Values
-    ensures { result ≡ values_of (levelKindOf (at_of places.now x.now) a b axis) }
+    ensures { result ≡ values_of (level_kind_of (at_of places.now x.now) a b axis) }
 {
     one(along_axis(axis, at(places, x, b)) - along_axis(axis, at(places, x, a)))
 }
 
 fn parallel(places: &[u8], x: &[f64], i: Line, j: Line) -> Values
-    ensures { result ≡ values_of (parallelOf (at_of places.now x.now) i j) }
+    ensures { result ≡ values_of (parallel_of (at_of places.now x.now) i j) }
 {
     let di = dir(places, x, i);
     let dj = dir(places, x, j);
@@ -74,7 +74,7 @@ fn parallel(places: &[u8], x: &[f64], i: Line, j: Line) -> Values
 }
 
 fn perpendicular(places: &[u8], x: &[f64], i: Line, j: Line) -> Values
-    ensures { result ≡ values_of (perpendicularOf (at_of places.now x.now) i j) }
+    ensures { result ≡ values_of (perpendicular_of (at_of places.now x.now) i j) }
 {
     let di = dir(places, x, i);
     let dj = dir(places, x, j);
@@ -82,7 +82,7 @@ fn perpendicular(places: &[u8], x: &[f64], i: Line, j: Line) -> Values
 }
 
 fn collinear(places: &[u8], x: &[f64], i: Line, j: Line) -> Values
-    ensures { result ≡ values_of (collinearOf (at_of places.now x.now) i j) }
+    ensures { result ≡ values_of (collinear_of (at_of places.now x.now) i j) }
 {
     let di = dir(places, x, i);
     let dj = dir(places, x, j);
@@ -113,7 +113,7 @@ fn axis_distance(
     value: f64,
     side: f64,
 ) -> Values
-    ensures { result ≡ values_of (axisDistanceOf (at_of places.now x.now) a b axis value side) }
+    ensures { result ≡ values_of (axis_distance_of (at_of places.now x.now) a b axis value side) }
 {
     one(side * (along_axis(axis, at(places, x, b)) - along_axis(axis, at(places, x, a))) - value)
 }
@@ -126,7 +126,7 @@ fn length(places: &[u8], x: &[f64], l: Line, value: f64) -> Values
 }
 
 fn point_line(places: &[u8], x: &[f64], p: PointNo, l: Line, value: f64, side: f64) -> Values
-    ensures { result ≡ values_of (pointLineOf (at_of places.now x.now) p l value side) }
+    ensures { result ≡ values_of (point_line_of (at_of places.now x.now) p l value side) }
 {
     let d = dir(places, x, l);
     let q = offset(places, x, l.from, p);
@@ -134,19 +134,19 @@ fn point_line(places: &[u8], x: &[f64], p: PointNo, l: Line, value: f64, side: f
 }
 
 fn arc_ends(places: &[u8], x: &[f64], c: PointNo, f: PointNo, t: PointNo) -> Values
-    ensures { result ≡ values_of (arcEndsOf (at_of places.now x.now) c f t) }
+    ensures { result ≡ values_of (arc_ends_of (at_of places.now x.now) c f t) }
 {
     one(apart(places, x, c, f) - apart(places, x, c, t))
 }
 
 fn radius(places: &[u8], x: &[f64], c: PointNo, f: PointNo, value: f64) -> Values
-    ensures { result ≡ values_of (radiusKindOf (at_of places.now x.now) c f value) }
+    ensures { result ≡ values_of (radius_kind_of (at_of places.now x.now) c f value) }
 {
     one(apart(places, x, c, f) - value)
 }
 
 fn line_circle(places: &[u8], x: &[f64], l: Line, c: PointNo, rad: Rad, side: f64) -> Values
-    ensures { result ≡ values_of (lineCircleOf (at_of places.now x.now) l c rad side) }
+    ensures { result ≡ values_of (line_circle_of (at_of places.now x.now) l c rad side) }
 {
     let d = dir(places, x, l);
     let q = offset(places, x, l.from, c);
@@ -162,7 +162,7 @@ fn circle_circle(
     r2: Rad,
     contact: Contact,
 ) -> Values
-    ensures { result ≡ values_of (circleCircleOf (at_of places.now x.now) c1 r1 c2 r2 contact) }
+    ensures { result ≡ values_of (circle_circle_of (at_of places.now x.now) c1 r1 c2 r2 contact) }
 {
     let dist = apart(places, x, c1, c2);
     let a = radius_of(places, x, r1, c1);
@@ -171,7 +171,7 @@ fn circle_circle(
 }
 
 fn line_arc_at(places: &[u8], x: &[f64], l: Line, c: PointNo, p: PointNo) -> Values
-    ensures { result ≡ values_of (lineArcAtOf (at_of places.now x.now) l c p) }
+    ensures { result ≡ values_of (line_arc_at_of (at_of places.now x.now) l c p) }
 {
     let d = dir(places, x, l);
     let w = unit_from(places, x, c, p);
@@ -179,7 +179,7 @@ fn line_arc_at(places: &[u8], x: &[f64], l: Line, c: PointNo, p: PointNo) -> Val
 }
 
 fn arc_arc_at(places: &[u8], x: &[f64], c1: PointNo, c2: PointNo, p: PointNo) -> Values
-    ensures { result ≡ values_of (arcArcAtOf (at_of places.now x.now) c1 c2 p) }
+    ensures { result ≡ values_of (arc_arc_at_of (at_of places.now x.now) c1 c2 p) }
 {
     let w1 = unit_from(places, x, c1, p);
     let w2 = unit_from(places, x, c2, p);
@@ -187,7 +187,7 @@ fn arc_arc_at(places: &[u8], x: &[f64], c1: PointNo, c2: PointNo, p: PointNo) ->
 }
 
 fn midpoint(places: &[u8], x: &[f64], p: PointNo, l: Line) -> Values
-    ensures { result ≡ values_of (midpointOf (at_of places.now x.now) p l) }
+    ensures { result ≡ values_of (midpoint_of (at_of places.now x.now) p l) }
 {
     let pp = at(places, x, p);
     let pa = at(places, x, l.from);
@@ -196,7 +196,7 @@ fn midpoint(places: &[u8], x: &[f64], p: PointNo, l: Line) -> Values
 }
 
 fn arc_midpoint(places: &[u8], x: &[f64], p: PointNo, c: PointNo, f: PointNo, t: PointNo) -> Values
-    ensures { result ≡ values_of (arcMidpointOf (at_of places.now x.now) p c f t) }
+    ensures { result ≡ values_of (arc_midpoint_of (at_of places.now x.now) p c f t) }
 {
     two(
         apart(places, x, c, f) - apart(places, x, c, p),
@@ -205,7 +205,7 @@ fn arc_midpoint(places: &[u8], x: &[f64], p: PointNo, c: PointNo, f: PointNo, t:
 }
 
 fn symmetric(places: &[u8], x: &[f64], p: PointNo, q: PointNo, l: Line) -> Values
-    ensures { result ≡ values_of (symmetricOf (at_of places.now x.now) p q l) }
+    ensures { result ≡ values_of (symmetric_of (at_of places.now x.now) p q l) }
 {
     let d = dir(places, x, l);
     let m = middle(places, x, p, q, l.from);
@@ -221,14 +221,14 @@ fn equal_radius(
     c2: PointNo,
     f2: PointNo,
 ) -> Values
-    ensures { result ≡ values_of (equalRadiusOf (at_of places.now x.now) c1 f1 c2 f2) }
+    ensures { result ≡ values_of (equal_radius_of (at_of places.now x.now) c1 f1 c2 f2) }
 {
     one(apart(places, x, c1, f1) - apart(places, x, c2, f2))
 }
 
 // The residuals of an equation at the coordinates x. A measure is its equation with the value 0.
 pub fn values(e: Equation, ends: Ends, places: &[u8], x: &[f64]) -> Values
-    ensures { result ≡ values_of (rowsGiven ends (at_of places.now x.now) e) }
+    ensures { result ≡ values_of (rows_given ends (at_of places.now x.now) e) }
 {
     match e {
         Equation::Coincident(a, b) => coincident(places, x, a, b),

@@ -1,8 +1,8 @@
 // The residuals of a list of equations, one after another in a lent slice.
 ghost use Rattle.std.specs.Prelude.{◌≡◌, ◌+◌, ◌≤◌};
 ghost use Rattle.loops.specs.Turns.{fold};
-ghost use Rattle.rows.specs.Column.{laid, nextValue, columnOf};
-ghost use Rattle.rows.specs.Ends.{rowsGiven};
+ghost use Rattle.rows.specs.Column.{laid, next_value, column_of};
+ghost use Rattle.rows.specs.Ends.{rows_given};
 ghost use Rattle.rows.specs.Located.{at_of};
 
 use crate::Ends;
@@ -20,7 +20,7 @@ fn values_into(
     x: &[f64],
 ) -> usize
     requires { row ≤ 78 }
-    ensures { (laid result r.new ≡ fold nextValue (laid row r.old) (rowsGiven ends (at_of places.now x.now) e)) × (result ≤ row + 2) }
+    ensures { (laid result r.new ≡ fold next_value (laid row r.old) (rows_given ends (at_of places.now x.now) e)) × (result ≤ row + 2) }
 {
     let v = values(e, ends, places, x);
     if v.count == 0 {
@@ -45,7 +45,7 @@ pub fn residuals(
     x: &[f64],
     r: &mut [f64],
 ) -> usize
-    ensures { laid result r.new ≡ columnOf equations lines places.now x.now chosen.now r.old }
+    ensures { laid result r.new ≡ column_of equations lines places.now x.now chosen.now r.old }
 {
     if 40 < chosen.len() {
         return 0;

@@ -1,24 +1,24 @@
 // The small vectors that the rows write out, each with its own signs: a zero's sign depends on them.
 ghost use Rattle.std.specs.Prelude.{◌≡◌};
-ghost use Rattle.rows.specs.Kinds.{turnedDown, turnedUp, sideDown, sideUp, times, plus, alongAxis, onAxis, firstSign, secondSign};
+ghost use Rattle.rows.specs.Kinds.{turned_down, turned_up, side_down, side_up, times, plus, along_axis, on_axis, first_sign, second_sign};
 
 use plane::Vec2;
 use sketch::Contact;
 
 pub fn turned_down(v: Vec2) -> Vec2
-    ensures { result ≡ turnedDown v }
+    ensures { result ≡ turned_down v }
 {
     Vec2 { x: v.y, y: -v.x }
 }
 
 pub fn turned_up(v: Vec2) -> Vec2
-    ensures { result ≡ turnedUp v }
+    ensures { result ≡ turned_up v }
 {
     Vec2 { x: -v.y, y: v.x }
 }
 
 pub fn side_down(side: f64, v: Vec2) -> Vec2
-    ensures { result ≡ sideDown side v }
+    ensures { result ≡ side_down side v }
 {
     Vec2 {
         x: side * v.y,
@@ -27,7 +27,7 @@ pub fn side_down(side: f64, v: Vec2) -> Vec2
 }
 
 pub fn side_up(side: f64, v: Vec2) -> Vec2
-    ensures { result ≡ sideUp side v }
+    ensures { result ≡ side_up side v }
 {
     Vec2 {
         x: -side * v.y,
@@ -54,13 +54,13 @@ pub fn plus_vec(a: Vec2, b: Vec2) -> Vec2
 }
 
 pub(crate) fn along_axis(axis: usize, v: Vec2) -> f64
-    ensures { result ≡ alongAxis axis v }
+    ensures { result ≡ along_axis axis v }
 {
     if axis == 0 { v.x } else { v.y }
 }
 
 pub fn on_axis(axis: usize, v: f64) -> Vec2
-    ensures { result ≡ onAxis axis v }
+    ensures { result ≡ on_axis axis v }
 {
     if axis == 0 {
         Vec2 { x: v, y: 0.0 }
@@ -71,7 +71,7 @@ pub fn on_axis(axis: usize, v: f64) -> Vec2
 
 // The signs of two radii in contact.
 pub fn first_sign(contact: Contact) -> f64
-    ensures { result ≡ firstSign contact }
+    ensures { result ≡ first_sign contact }
 {
     match contact {
         Contact::Outside => -1.0,
@@ -80,7 +80,7 @@ pub fn first_sign(contact: Contact) -> f64
 }
 
 pub fn second_sign(contact: Contact) -> f64
-    ensures { result ≡ secondSign contact }
+    ensures { result ≡ second_sign contact }
 {
     match contact {
         Contact::Outside => -1.0,

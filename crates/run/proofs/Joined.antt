@@ -3,7 +3,7 @@ use Prim.Native.Nat.{ℕ}
 use mathlib.Core.List.{List, []}
 use mathlib.Core.Path.{◌≡◌, ◌∙◌}
 use lib.Ieee.{Float}
-use Rattle.answer.specs.Endings.{refusedOf}
+use Rattle.answer.specs.Endings.{refused_of}
 use Rattle.answer.specs.declared.Answer.{Answer}
 use Rattle.job.specs.Promise.{Does}
 use Rattle.reply.specs.Promise.{Writes}
@@ -12,12 +12,12 @@ use Rattle.sketch.specs.declared.Ending.{Ending}
 use Rattle.text.specs.Reader.{read_of}
 use Rattle.text.specs.declared.Outcome.TheVariants.{Read, Ends}
 use Rattle.text.specs.declared.Reading.{Reading}
-use Rattle.run.specs.Promise.{room, replyBuild, RunsBuild, Runs}
+use Rattle.run.specs.Promise.{room, reply_build, RunsBuild, Runs}
 
 module _ (reply reply' : List ℕ) (p q r p' q' r' : List Float) (n : ℕ) where
   pub build-run : (b : Build) (out : List Float) (a : Answer) → Does b room p q r out p' q' r' a → Writes a out b.point_count b.measure_count reply reply' n
       → RunsBuild b reply p q r reply' p' q' r' n
-  unfolding replyBuild
+  unfolding reply_build
   build-run b out a d w = record {
     needed = w.needed ∙ rw (d.answer, d.output);
     written = w.written ∙ rw (d.answer, d.output);
@@ -37,7 +37,7 @@ module _ (reply reply' : List ℕ) (p q r p' q' r' : List Float) (n : ℕ) where
     }
 
 module _ (reply reply' : List ℕ) (p q r : List Float) (n : ℕ) (s : List ℕ) (t : Reading) (read : t ≡ read_of s) where
-  pub refused-run : (e : Ending) (a : Answer) → t.outcome ≡ Ends e → a ≡ refusedOf e → Writes a [] 0 0 reply reply' n → Runs s reply p q r reply' p q r n
+  pub refused-run : (e : Ending) (a : Answer) → t.outcome ≡ Ends e → a ≡ refused_of e → Writes a [] 0 0 reply reply' n → Runs s reply p q r reply' p q r n
   refused-run e a o h w = record {
     needed = rw (← read, o) (w.needed ∙ rw h);
     written = rw (← read, o) (w.written ∙ rw h);

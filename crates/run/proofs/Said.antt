@@ -10,9 +10,9 @@ use lib.ListN.{length, get_or, drop}
 use Rattle.answer.specs.declared.Answer.{Answer}
 use Rattle.reply.proofs.Short.{short}
 use Rattle.reply.specs.Figures.{newline, whole}
-use Rattle.reply.specs.Lines.{statusLine}
+use Rattle.reply.specs.Lines.{status_line}
 use Rattle.reply.specs.Promise.{written_of}
-use Rattle.reply.specs.Reply.{linesAfter, replyOf}
+use Rattle.reply.specs.Reply.{lines_after, reply_of}
 use Rattle.sketch.specs.Check.{number_of}
 use Rattle.sketch.specs.declared.Ending.{Ending}
 use Rattle.sketch.specs.declared.Ending.TheVariants.{Fitted, TooLong, BadForm, TooMany, OutOfBounds, NoSuchItem, TooManyRows, NotConverged, TooShort}
@@ -49,7 +49,7 @@ same_line n k l m h i e =
 
 module _ (a : Answer) (out : List Float) (points measures : ℕ) (reply : List ℕ) (room : 8192 ≤ length reply) where
   abbrev bytes : List ℕ
-  bytes = replyOf a out points measures
+  bytes = reply_of a out points measures
 
   laid-down : (bs : List ℕ) → length bs ≤ 8192 → written_of bs reply ≡ bs ++ drop (length bs) reply
   unfolding written_of
@@ -60,11 +60,11 @@ module _ (a : Answer) (out : List Float) (points measures : ℕ) (reply : List �
   laid = laid-down bytes (short a out points measures)
 
   first-line : (rest : List ℕ) × (written_of bytes reply ≡ line_of (number_of a.ending) rest)
-  unfolding replyOf statusLine line_of
+  unfolding reply_of status_line line_of
   first-line =
-      let l = linesAfter a.ending a out (min points 40) (min measures 20) in
+      let l = lines_after a.ending a out (min points 40) (min measures 20) in
       let d = drop (length bytes) reply in
-      (l ++ d, laid ∙ append_assoc (statusLine a.ending) l d)
+      (l ++ d, laid ∙ append_assoc (status_line a.ending) l d)
 
   pub says-exactly : (k : ℕ) → k < 10 → Says (written_of bytes reply) k ↔ number_of a.ending ≡ k
   unfolding line_of

@@ -10,15 +10,15 @@ use Rattle.fit.specs.Own.{SharesGroup, FitsAlike}
 use Rattle.fit.specs.Table.{BothSides}
 use Rattle.grammar.specs.Form.{ReadsForm, OneReading}
 use Rattle.groups.specs.Chains.{GroupsAreChains}
-use Rattle.groups.specs.Listed.{groupingOf}
-use Rattle.groups.specs.Touches.{touchedBy}
+use Rattle.groups.specs.Listed.{grouping_of}
+use Rattle.groups.specs.Touches.{touched_by}
 use Rattle.job.specs.Given.{GivenExactly, HandsOutNothing}
 use Rattle.job.specs.Sentences.{FittedMeansFitted, MeasuresAsHandedOut, WorstAsHandedOut, FailureNamed, AreasAfter}
 use Rattle.plate.specs.Scale.{BroughtBack}
 use Rattle.reply.specs.Theorems.{SuspectsAre}
-use Rattle.root.specs.Root.{sqrtOf}
+use Rattle.root.specs.Root.{sqrt_of}
 use Rattle.root.specs.Rounded.{Rounded}
-use Rattle.sketch.specs.Check.{checkOf}
+use Rattle.sketch.specs.Check.{check_of}
 use Rattle.sketch.specs.Looked.{LooksEverywhere}
 use Rattle.sketch.specs.declared.Build.{Build}
 use Rattle.sketch.specs.declared.Checked.TheVariants.{Passes}
@@ -53,12 +53,12 @@ pub record Demands : Type 0 where
   pub brought-back : (b : Build) (points : List Float) → BroughtBack b points
   -- ---- 2. the square root is correctly rounded; the rest equals definitions that follow the Rust, which each room's promises are
 
-  pub root : (x : Float) → T (positive x) → T (fits binary64 x) → Rounded x (sqrtOf x)
+  pub root : (x : Float) → T (positive x) → T (fits binary64 x) → Rounded x (sqrt_of x)
   pub root-once : (x r s : Float) → Rounded x r → Rounded x s → r ≡ s
   -- ---- 3. groups are exactly the chains, and a group depends on its own part of the build alone
 
-  pub groups : (b : Build) → checkOf b ≡ Passes → GroupsAreChains (touchedBy b) (groupingOf b)
-  pub lowest : (b : Build) (g : ℕ) → checkOf b ≡ Passes → LowestIs b (groupingOf b) g
+  pub groups : (b : Build) → check_of b ≡ Passes → GroupsAreChains (touched_by b) (grouping_of b)
+  pub lowest : (b : Build) (g : ℕ) → check_of b ≡ Passes → LowestIs b (grouping_of b) g
   pub own-part : {b b' : Build} {g g' : ℕ} → SharesGroup b b' g g' → FitsAlike b b' g g'
   -- ---- the form of a text: what is read is what the form says, and a text is one job's
 

@@ -8,11 +8,11 @@ use Rattle.std.specs.Prelude.{◌≡◌, ℕ, ◌≤◌, Float, length}
 use Rattle.answer.specs.declared.Answer.{Answer}
 use Rattle.grammar.specs.Form.{Writes}
 use Rattle.grammar.specs.Job.{Job}
-use Rattle.grammar.specs.Meaning.{buildOf}
+use Rattle.grammar.specs.Meaning.{build_of}
 use Rattle.job.specs.Sentences.{Names}
 use Rattle.reply.specs.Figures.{comma, newline, whole}
-use Rattle.reply.specs.Theorems.{cLine, suspectsIn}
-use Rattle.rounds.specs.Reasons.{code_of, namedColumn}
+use Rattle.reply.specs.Theorems.{c_line, suspects_in}
+use Rattle.rounds.specs.Reasons.{code_of, named_column}
 use Rattle.sketch.specs.declared.Build.{Build}
 use Rattle.spelling.specs.Letters.{ascii}
 use Rattle.run.specs.Promise.{Runs}
@@ -26,12 +26,12 @@ pub record Failure (b : Build) (reply : List ℕ) : Type 0 where
   pub printed : reply
       ≡ (ascii "status=7\n"
       ++ ascii "g=" ++ whole named.lowest comma ++ whole named.iterations comma ++ whole named.tries comma
-      ++ whole (code_of named.why) comma ++ whole (namedColumn named.why) newline
-      ++ flat_map cLine (suspectsIn named.marks))
+      ++ whole (code_of named.why) comma ++ whole (named_column named.why) newline
+      ++ flat_map c_line (suspects_in named.marks))
       ++ after
 
 -- with room for every reply, and areas that have room
 abbrev pub FailuresPrinted : Type 0
 FailuresPrinted = (s reply reply' : List ℕ) (p q r p' q' r' : List Float) (n : ℕ) → Runs s reply p q r reply' p' q' r' n
     → 8192 ≤ length reply → 6400 ≤ length p → 6400 ≤ length q → 6400 ≤ length r
-    → Says reply' 7 → (j : Job) × Writes s j × Failure (buildOf j) reply'
+    → Says reply' 7 → (j : Job) × Writes s j × Failure (build_of j) reply'

@@ -1,11 +1,11 @@
 -- The reply to a job's text, and what is left in the lent areas, for every input.
 use Rattle.std.specs.Prelude.{ℕ, List, [], ◌≡◌, Float, length, replicate}
-use Rattle.answer.specs.Endings.{refusedOf}
+use Rattle.answer.specs.Endings.{refused_of}
 use Rattle.floats.specs.Only.{only-answer}
 use Rattle.floats.specs.Ops.{zero⁺}
-use Rattle.job.specs.Promise.{answerAfter, outputAfter, areaAfter, verdict}
+use Rattle.job.specs.Promise.{answer_after, output_after, area_after, verdict}
 use Rattle.reply.specs.Promise.{written_of}
-use Rattle.reply.specs.Reply.{replyOf}
+use Rattle.reply.specs.Reply.{reply_of}
 use Rattle.sketch.specs.declared.Build.{Build}
 use Rattle.sketch.specs.declared.Checked.{Checked}
 use Rattle.text.specs.Reader.{read_of}
@@ -21,35 +21,35 @@ module _ (p q r : List Float) where
   abbrev pub came : Build → Checked
   came b = verdict b room p q r
 
-  unfoldable pub replyBuild : Build → List ℕ
-  replyBuild b = replyOf (answerAfter b (came b)) (outputAfter b room (came b)) b.point_count b.measure_count
+  unfoldable pub reply_build : Build → List ℕ
+  reply_build b = reply_of (answer_after b (came b)) (output_after b room (came b)) b.point_count b.measure_count
 
   -- a text that is not read has the status line alone
-  abbrev pub replyBy : Outcome → Build → List ℕ
-  replyBy Read b = replyBuild b
-  replyBy (Ends e) b = replyOf (refusedOf e) [] 0 0
+  abbrev pub reply_by : Outcome → Build → List ℕ
+  reply_by Read b = reply_build b
+  reply_by (Ends e) b = reply_of (refused_of e) [] 0 0
 
   -- and leaves the areas alone
-  abbrev pub areaBy : List Float → Outcome → Build → List Float
-  areaBy a Read b = areaAfter a (came b)
-  areaBy a (Ends e) b = a
+  abbrev pub area_by : List Float → Outcome → Build → List Float
+  area_by a Read b = area_after a (came b)
+  area_by a (Ends e) b = a
 
-  abbrev pub replyTo : List ℕ → List ℕ
-  replyTo s = replyBy (read_of s).outcome (read_of s).build
+  abbrev pub reply_to : List ℕ → List ℕ
+  reply_to s = reply_by (read_of s).outcome (read_of s).build
 
   abbrev pub area_to : List Float → List ℕ → List Float
-  area_to a s = areaBy a (read_of s).outcome (read_of s).build
+  area_to a s = area_by a (read_of s).outcome (read_of s).build
 
 pub record RunsBuild (b : Build) (reply : List ℕ) (p q r : List Float) (reply' : List ℕ) (p' q' r' : List Float) (n : ℕ) : Type 0 where
-  pub needed : n ≡ length (replyBuild p q r b)
-  pub written : reply' ≡ written_of (replyBuild p q r b) reply
-  pub first : p' ≡ areaAfter p (came p q r b)
-  pub second : q' ≡ areaAfter q (came p q r b)
-  pub third : r' ≡ areaAfter r (came p q r b)
+  pub needed : n ≡ length (reply_build p q r b)
+  pub written : reply' ≡ written_of (reply_build p q r b) reply
+  pub first : p' ≡ area_after p (came p q r b)
+  pub second : q' ≡ area_after q (came p q r b)
+  pub third : r' ≡ area_after r (came p q r b)
 
 pub record Runs (s reply : List ℕ) (p q r : List Float) (reply' : List ℕ) (p' q' r' : List Float) (n : ℕ) : Type 0 where
-  pub needed : n ≡ length (replyTo p q r s)
-  pub written : reply' ≡ written_of (replyTo p q r s) reply
+  pub needed : n ≡ length (reply_to p q r s)
+  pub written : reply' ≡ written_of (reply_to p q r s) reply
   pub first : p' ≡ area_to p q r p s
   pub second : q' ≡ area_to p q r q s
   pub third : r' ≡ area_to p q r r s

@@ -4,12 +4,12 @@
 use Rattle.std.specs.Prelude.{List, ◌++◌, ◌↔◌, ◌≡◌, ℕ, ◌≤◌, ◌<◌, Float, length}
 use Rattle.grammar.specs.Form.{Writes, Exceeds}
 use Rattle.grammar.specs.Job.{Job}
-use Rattle.grammar.specs.Meaning.{buildOf}
+use Rattle.grammar.specs.Meaning.{build_of}
 use Rattle.job.specs.Given.{SomeFails, AllFit}
 use Rattle.reply.specs.Figures.{newline, whole}
 use Rattle.sketch.specs.Indices.{SomeMissing}
 use Rattle.sketch.specs.Numbers.{SomeOut}
-use Rattle.sketch.specs.Rows.{rowsOfBuild}
+use Rattle.sketch.specs.Rows.{rows_of_build}
 use Rattle.sketch.specs.declared.Build.{Build}
 use Rattle.spelling.specs.Letters.{ascii}
 use Rattle.run.specs.Promise.{Runs}
@@ -23,13 +23,13 @@ pub record Of (s : List ℕ) (P : Build → Type 0) : Type 0 where
   pub short : length s ≤ 16384
   pub job : Job
   pub writes : Writes s job
-  pub holds : P (buildOf job)
+  pub holds : P (build_of job)
 
 -- none of 4, 5 and 6: no number is out, no point or line number is missing, and there are at most 64 rows
 pub record Passed (b : Build) : Type 0 where
   pub numbers : SomeOut b → ⊥
   pub items : SomeMissing b → ⊥
-  pub rows : rowsOfBuild b ≤ 64
+  pub rows : rows_of_build b ≤ 64
 
 pub record Answers (s reply : List ℕ) : Type 0 where
   pub one : Says reply 1 ↔ 16384 < length s
@@ -37,7 +37,7 @@ pub record Answers (s reply : List ℕ) : Type 0 where
   pub three : Says reply 3 ↔ (length s ≤ 16384) × Exceeds s
   pub four : Says reply 4 ↔ Of s SomeOut
   pub five : Says reply 5 ↔ Of s (λ b. (SomeOut b → ⊥) × SomeMissing b)
-  pub six : Says reply 6 ↔ Of s (λ b. (SomeOut b → ⊥) × (SomeMissing b → ⊥) × (64 < rowsOfBuild b))
+  pub six : Says reply 6 ↔ Of s (λ b. (SomeOut b → ⊥) × (SomeMissing b → ⊥) × (64 < rows_of_build b))
   pub seven : Says reply 7 ↔ Of s (λ b. Passed b × SomeFails b)
   pub fitted : Says reply 0 ↔ Of s (λ b. Passed b × AllFit b)
   pub never-nine : Says reply 9 → ⊥

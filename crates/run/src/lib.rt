@@ -1,4 +1,7 @@
 // A job's text in, its reply out (document 01, "The text"). Nothing is refused but in the reply's own words.
+
+#![tactic(auto)]
+
 ghost use Rattle.run.specs.Promise.{Runs, RunsBuild};
 
 use sketch::Build;

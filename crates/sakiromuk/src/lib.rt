@@ -1,5 +1,8 @@
 // A job on a text, for programs in C and in Rust: bindings/c/sakiromuk.h and bindings/rust say how it is called. The crate has the name of the
 // archive that they link, libsakiromuk.a.
+
+#![tactic(auto)]
+
 ghost use Rattle.run.specs.Promise.{Runs};
 
 #[unsafe(no_mangle)]

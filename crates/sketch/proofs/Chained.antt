@@ -6,8 +6,8 @@ use mathlib.Core.Path.{◌≡◌, refl, sym, ◌∙◌}
 use Prim.Native.Nat.{ℕ}
 use Rattle.loops.specs.Turns.{every}
 use Rattle.sketch.specs.Fields.{Field, point, line, value, size, axis, side, radius, contact}
-use Rattle.sketch.specs.Indices.{isPoint, is_line, foundRad, foundField}
-use Rattle.sketch.specs.Numbers.{bounded, sized, isSide, isAxis, boundedRad, boundedContact, boundedField}
+use Rattle.sketch.specs.Indices.{is_point, is_line, found_rad, found_field}
+use Rattle.sketch.specs.Numbers.{bounded, sized, is_side, is_axis, bounded_rad, bounded_contact, bounded_field}
 use Rattle.sketch.proofs.Every.{every_append}
 
 abbrev also : Bool → List Bool → Bool
@@ -61,46 +61,46 @@ bounds (point p) = []
 bounds (line l) = []
 bounds (value v) = bounded v ∷ []
 bounds (size v) = sized v ∷ []
-bounds (axis a) = isAxis a ∷ []
-bounds (side s) = isSide s ∷ []
-bounds (radius r) = boundedRad r ∷ []
-bounds (contact k) = boundedContact k ∷ []
+bounds (axis a) = is_axis a ∷ []
+bounds (side s) = is_side s ∷ []
+bounds (radius r) = bounded_rad r ∷ []
+bounds (contact k) = bounded_contact k ∷ []
 
-bounds-are : (f : Field) → every same (bounds f) ≡ boundedField f
+bounds-are : (f : Field) → every same (bounds f) ≡ bounded_field f
 unfolding every
 bounds-are (point p) = refl
 bounds-are (line l) = refl
 bounds-are (value v) = one (bounded v)
 bounds-are (size v) = one (sized v)
-bounds-are (axis a) = one (isAxis a)
-bounds-are (side s) = one (isSide s)
-bounds-are (radius r) = one (boundedRad r)
-bounds-are (contact k) = one (boundedContact k)
+bounds-are (axis a) = one (is_axis a)
+bounds-are (side s) = one (is_side s)
+bounds-are (radius r) = one (bounded_rad r)
+bounds-are (contact k) = one (bounded_contact k)
 
-pub bounded-chain : {r : Bool} (l : List Field) → r ≡ all (tests bounds l) → r ≡ every boundedField l
-bounded-chain l e = e ∙ chain boundedField bounds bounds-are l
+pub bounded-chain : {r : Bool} (l : List Field) → r ≡ all (tests bounds l) → r ≡ every bounded_field l
+bounded-chain l e = e ∙ chain bounded_field bounds bounds-are l
 
 module _ (n m : ℕ) where
   abbrev finds : Field → List Bool
-  finds (point p) = isPoint n p ∷ []
+  finds (point p) = is_point n p ∷ []
   finds (line l) = is_line m l ∷ []
   finds (value v) = []
   finds (size v) = []
   finds (axis a) = []
   finds (side s) = []
-  finds (radius r) = foundRad n r ∷ []
+  finds (radius r) = found_rad n r ∷ []
   finds (contact k) = []
 
-  finds-are : (f : Field) → every same (finds f) ≡ foundField n m f
+  finds-are : (f : Field) → every same (finds f) ≡ found_field n m f
   unfolding every
-  finds-are (point p) = one (isPoint n p)
+  finds-are (point p) = one (is_point n p)
   finds-are (line l) = one (is_line m l)
   finds-are (value v) = refl
   finds-are (size v) = refl
   finds-are (axis a) = refl
   finds-are (side s) = refl
-  finds-are (radius r) = one (foundRad n r)
+  finds-are (radius r) = one (found_rad n r)
   finds-are (contact k) = refl
 
-  pub found-chain : {r : Bool} (l : List Field) → r ≡ all (tests finds l) → r ≡ every (foundField n m) l
-  found-chain l e = e ∙ chain (foundField n m) finds finds-are l
+  pub found-chain : {r : Bool} (l : List Field) → r ≡ all (tests finds l) → r ≡ every (found_field n m) l
+  found-chain l e = e ∙ chain (found_field n m) finds finds-are l

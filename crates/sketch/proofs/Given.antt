@@ -5,14 +5,14 @@ use mathlib.Core.Logic.{◌↔◌}
 use mathlib.Core.Path.{◌≡◌, refl, sym, ap, ◌∙◌}
 use Prim.Native.Nat.{ℕ}
 use Rattle.loops.specs.Numbers.{refused}
-use Rattle.sketch.specs.Check.{Checks, checkOf, meaningOf, numbered, ordered, overBound, outOfBounds, refersToNothing, overRows}
+use Rattle.sketch.specs.Check.{Checks, check_of, meaning_of, numbered, ordered, over_bound, out_of_bounds, refers_to_nothing, over_rows}
 use Rattle.sketch.specs.Given.{GivenExactly}
 use Rattle.sketch.specs.declared.Build.{Build}
 use Rattle.sketch.specs.declared.Checked.{Checked}
 use Rattle.sketch.specs.declared.Checked.TheVariants.{Passes}
 
 module _ (b : Build) where
-  meant : (o u m r : Bool) → meaningOf b (ordered o u m r) ≡ numbered b o u m r
+  meant : (o u m r : Bool) → meaning_of b (ordered o u m r) ≡ numbered b o u m r
   meant true u m r = refl
   meant false true m r = refl
   meant false false true r = refl
@@ -54,24 +54,24 @@ module _ (b : Build) where
   passing false false false true = (λ h. (cc, cc, cc, cc), λ h. cc)
   passing false false false false = (λ h. (cc, cc, cc, cc), λ h. cc)
 
-  meaning-is : meaningOf b (checkOf b) ≡ numbered b (overBound b) (outOfBounds b) (refersToNothing b) (overRows b)
-  unfolding checkOf
-  meaning-is = meant (overBound b) (outOfBounds b) (refersToNothing b) (overRows b)
+  meaning-is : meaning_of b (check_of b) ≡ numbered b (over_bound b) (out_of_bounds b) (refers_to_nothing b) (over_rows b)
+  unfolding check_of
+  meaning-is = meant (over_bound b) (out_of_bounds b) (refers_to_nothing b) (over_rows b)
 
   -- a statement on the rows is one on the answer
-  given : {A : Type 0} (n : ℕ) → (numbered b (overBound b) (outOfBounds b) (refersToNothing b) (overRows b) ≡ refused n ↔ A)
-      → meaningOf b (checkOf b) ≡ refused n ↔ A
+  given : {A : Type 0} (n : ℕ) → (numbered b (over_bound b) (out_of_bounds b) (refers_to_nothing b) (over_rows b) ≡ refused n ↔ A)
+      → meaning_of b (check_of b) ≡ refused n ↔ A
   given n f = (λ h. f.0 (sym meaning-is ∙ h), λ a. meaning-is ∙ f.1 a)
 
-  pub checks : (r : Checked) → r ≡ checkOf b → Checks b r
-  checks r e = record { answer = e; meaning = ap (meaningOf b) e ∙ meaning-is }
+  pub checks : (r : Checked) → r ≡ check_of b → Checks b r
+  checks r e = record { answer = e; meaning = ap (meaning_of b) e ∙ meaning-is }
 
   pub given-exactly : GivenExactly b
-  unfolding checkOf
+  unfolding check_of
   given-exactly = record {
-    three = given 3 (third (overBound b) (outOfBounds b) (refersToNothing b) (overRows b));
-    four = given 4 (fourth (overBound b) (outOfBounds b) (refersToNothing b) (overRows b));
-    five = given 5 (fifth (overBound b) (outOfBounds b) (refersToNothing b) (overRows b));
-    six = given 6 (sixth (overBound b) (outOfBounds b) (refersToNothing b) (overRows b));
-    passes = passing (overBound b) (outOfBounds b) (refersToNothing b) (overRows b);
+    three = given 3 (third (over_bound b) (out_of_bounds b) (refers_to_nothing b) (over_rows b));
+    four = given 4 (fourth (over_bound b) (out_of_bounds b) (refers_to_nothing b) (over_rows b));
+    five = given 5 (fifth (over_bound b) (out_of_bounds b) (refers_to_nothing b) (over_rows b));
+    six = given 6 (sixth (over_bound b) (out_of_bounds b) (refers_to_nothing b) (over_rows b));
+    passes = passing (over_bound b) (out_of_bounds b) (refers_to_nothing b) (over_rows b);
   }

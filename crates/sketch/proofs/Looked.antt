@@ -4,32 +4,32 @@ use mathlib.Core.Logic.{◌↔◌}
 use mathlib.Core.Path.{◌≡◌, ap}
 use borrow.Author.Tests.{not-true}
 use Rattle.loops.proofs.Picks.{denied}
-use Rattle.sketch.specs.Check.{outOfBounds, refersToNothing}
-use Rattle.sketch.specs.Fields.{buildFields}
-use Rattle.sketch.specs.Indices.{foundIn, SomeMissing}
+use Rattle.sketch.specs.Check.{out_of_bounds, refers_to_nothing}
+use Rattle.sketch.specs.Fields.{build_fields}
+use Rattle.sketch.specs.Indices.{found_in, SomeMissing}
 use Rattle.sketch.specs.Looked.{LooksEverywhere}
-use Rattle.sketch.specs.Numbers.{boundedField, SomeOut}
+use Rattle.sketch.specs.Numbers.{bounded_field, SomeOut}
 use Rattle.sketch.specs.declared.Build.{Build}
 use Rattle.sketch.proofs.Every.{every-not, not-every}
 use Rattle.sketch.proofs.Given.{given-exactly}
 
 module _ (b : Build) where
-  out-exactly : outOfBounds b ≡ true ↔ SomeOut b
+  out-exactly : out_of_bounds b ≡ true ↔ SomeOut b
   out-exactly = (
-    λ h. every-not boundedField (buildFields b) (not-true _ h),
-    λ s. ap not (not-every boundedField (buildFields b) s.0 s.1 s.2),
+    λ h. every-not bounded_field (build_fields b) (not-true _ h),
+    λ s. ap not (not-every bounded_field (build_fields b) s.0 s.1 s.2),
   )
 
-  missing-exactly : refersToNothing b ≡ true ↔ SomeMissing b
+  missing-exactly : refers_to_nothing b ≡ true ↔ SomeMissing b
   missing-exactly = (
-    λ h. every-not (foundIn b) (buildFields b) (not-true _ h),
-    λ s. ap not (not-every (foundIn b) (buildFields b) s.0 s.1 s.2),
+    λ h. every-not (found_in b) (build_fields b) (not-true _ h),
+    λ s. ap not (not-every (found_in b) (build_fields b) s.0 s.1 s.2),
   )
 
   pub looks-everywhere : LooksEverywhere b
   looks-everywhere =
       let g = given-exactly b in
-      let none = denied (outOfBounds b) out-exactly in
+      let none = denied (out_of_bounds b) out-exactly in
       record {
         out = out-exactly;
         missing = missing-exactly;

@@ -2,9 +2,9 @@
 -- of a kind and of fields of its sorts has that shape. Assumes nothing.
 use mathlib.Core.List.{List}
 use mathlib.Core.Path.{◌≡◌, refl, sym, ap, ◌∙◌}
-use Rattle.sketch.specs.Fields.{Field, shape_of, measureShape, ShapesAreWhole}
-use Rattle.sketch.specs.Kinds.{fields_of, measuredFields}
-use Rattle.sketch.specs.Made.{round, touching, radIn, contactIn, equationFrom, measureFrom, Row, rowFields, FieldsAgree}
+use Rattle.sketch.specs.Fields.{Field, shape_of, measure_shape, ShapesAreWhole}
+use Rattle.sketch.specs.Kinds.{fields_of, measured_fields}
+use Rattle.sketch.specs.Made.{round, touching, rad_in, contact_in, equation_from, measure_from, Row, row_fields, FieldsAgree}
 use Rattle.sketch.specs.declared.Contact.{Contact}
 use Rattle.sketch.specs.declared.Equation.{Equation}
 use Rattle.sketch.specs.declared.Gauge.{Gauge}
@@ -12,21 +12,21 @@ use Rattle.sketch.specs.declared.Kind.{Kind}
 use Rattle.sketch.specs.declared.Measure.{Measure}
 use Rattle.sketch.specs.declared.Rad.{Rad}
 
-abbrev fromShape : Kind × List Field → Equation
-fromShape r = equationFrom r.0 r.1
+abbrev from_shape : Kind × List Field → Equation
+from_shape r = equation_from r.0 r.1
 
-abbrev fromMeasured : Gauge × List Field → Measure
-fromMeasured r = measureFrom r.0 r.1
+abbrev from_measured : Gauge × List Field → Measure
+from_measured r = measure_from r.0 r.1
 
-rad-again : (r : Rad) → radIn (round r) ≡ r
+rad-again : (r : Rad) → rad_in (round r) ≡ r
 rad-again (Rad.Point p) = refl
 rad-again (Rad.Value v) = refl
 
-contact-again : (k : Contact) → contactIn (touching k) ≡ k
+contact-again : (k : Contact) → contact_in (touching k) ≡ k
 contact-again Contact.Outside = refl
 contact-again (Contact.Inside s) = refl
 
-again : (e : Equation) → fromShape (shape_of e) ≡ e
+again : (e : Equation) → from_shape (shape_of e) ≡ e
 again (Equation.Coincident a b) = refl
 again (Equation.Level a b x) = refl
 again (Equation.Parallel i j) = refl
@@ -49,7 +49,7 @@ again (Equation.ArcMidpoint p c f t) = refl
 again (Equation.Symmetric p q l) = refl
 again (Equation.EqualRadius c₁ f₁ c₂ f₂) = refl
 
-gauged-again : (d : Measure) → fromMeasured (measureShape d) ≡ d
+gauged-again : (d : Measure) → from_measured (measure_shape d) ≡ d
 gauged-again (Measure.Distance a b) = refl
 gauged-again (Measure.AxisDistance a b x s) = refl
 gauged-again (Measure.Length l) = refl
@@ -58,12 +58,12 @@ gauged-again (Measure.Radius c f) = refl
 
 pub shapes-are-whole : ShapesAreWhole
 shapes-are-whole = (
-  λ e f h. sym (again e) ∙ ap fromShape h ∙ again f,
-  λ d f h. sym (gauged-again d) ∙ ap fromMeasured h ∙ gauged-again f,
+  λ e f h. sym (again e) ∙ ap from_shape h ∙ again f,
+  λ d f h. sym (gauged-again d) ∙ ap from_measured h ∙ gauged-again f,
 )
 
 -- `fields-agree`: kind by kind
-kind-agrees : (k : Kind) (m : Row (fields_of k)) → let l = rowFields (fields_of k) m in shape_of (equationFrom k l) ≡ (k, l)
+kind-agrees : (k : Kind) (m : Row (fields_of k)) → let l = row_fields (fields_of k) m in shape_of (equation_from k l) ≡ (k, l)
 kind-agrees Kind.Coincident m = refl
 kind-agrees Kind.Level m = refl
 kind-agrees Kind.Parallel m = refl
@@ -86,7 +86,7 @@ kind-agrees Kind.ArcMidpoint m = refl
 kind-agrees Kind.Symmetric m = refl
 kind-agrees Kind.EqualRadius m = refl
 
-gauge-agrees : (g : Gauge) (m : Row (measuredFields g)) → let l = rowFields (measuredFields g) m in measureShape (measureFrom g l) ≡ (g, l)
+gauge-agrees : (g : Gauge) (m : Row (measured_fields g)) → let l = row_fields (measured_fields g) m in measure_shape (measure_from g l) ≡ (g, l)
 gauge-agrees Gauge.Distance m = refl
 gauge-agrees Gauge.AxisDistance m = refl
 gauge-agrees Gauge.Length m = refl

@@ -2,7 +2,7 @@
 use Rattle.std.specs.Prelude.{ℕ, ◌-◌, List, ◌++◌, Float, length, replicate}
 use Rattle.floats.specs.Ops.{zero⁺}
 use Rattle.plane.specs.declared.Vec2.{Vec2}
-use Rattle.sketch.specs.Involved.{noLine}
+use Rattle.sketch.specs.Involved.{no_line}
 use Rattle.sketch.specs.declared.Active.{Active}
 use Rattle.sketch.specs.declared.Build.{Build}
 use Rattle.sketch.specs.declared.Equation.{Equation}
@@ -16,17 +16,17 @@ abbrev pub origin : Vec2
 origin = record { x = zero⁺; y = zero⁺ }
 
 -- drawn at the origin
-abbrev pub pointIn : State → Point
-pointIn s = record { start = origin; state = s }
+abbrev pub point_in : State → Point
+point_in s = record { start = origin; state = s }
 
-abbrev pub blankPoint : Point
-blankPoint = pointIn State.Free
+abbrev pub blank_point : Point
+blank_point = point_in State.Free
 
-abbrev pub blankActive : Active
-blankActive = record { equation = Equation.Held }
+abbrev pub blank_active : Active
+blank_active = record { equation = Equation.Held }
 
-abbrev pub blankMeasured : Measured
-blankMeasured = record { measure = Measure.Length (record { 0 = 0 }) }
+abbrev pub blank_measured : Measured
+blank_measured = record { measure = Measure.Length (record { 0 = 0 }) }
 
 -- n places: the items, and blanks after them
 abbrev pub filled : {A : Type 0} → ℕ → A → List A → List A
@@ -36,12 +36,12 @@ abbrev pub sample : Vec2 → Float → List Point → List Line → List Active 
 sample centre size ps ls es ms = record {
   centre = centre;
   size = size;
-  points = filled 40 blankPoint ps;
+  points = filled 40 blank_point ps;
   point_count = length ps;
-  lines = filled 40 noLine ls;
+  lines = filled 40 no_line ls;
   line_count = length ls;
-  equations = filled 40 blankActive es;
+  equations = filled 40 blank_active es;
   equation_count = length es;
-  measures = filled 20 blankMeasured ms;
+  measures = filled 20 blank_measured ms;
   measure_count = length ms;
 }

@@ -6,10 +6,10 @@ use Rattle.std.specs.Float.Ieee.{le, lt, eq, neg, of_bits}
 use Rattle.floats.specs.Ops.{zero⁺, zero⁻, one, half, million, 1/1024}
 use Rattle.loops.specs.Turns.{every, fold}
 use Rattle.plane.specs.declared.Vec2.{Vec2}
-use Rattle.sketch.specs.Blank.{blankPoint, sample}
-use Rattle.sketch.specs.Check.{checkOf}
-use Rattle.sketch.specs.Involved.{noPoint, noLine}
-use Rattle.sketch.specs.Rows.{moreRows, rows_of}
+use Rattle.sketch.specs.Blank.{blank_point, sample}
+use Rattle.sketch.specs.Check.{check_of}
+use Rattle.sketch.specs.Involved.{no_point, no_line}
+use Rattle.sketch.specs.Rows.{more_rows, rows_of}
 use Rattle.sketch.specs.declared.Build.{Build}
 use Rattle.sketch.specs.declared.Checked.TheVariants.{Passes, Ends}
 use Rattle.sketch.specs.declared.Contact.TheVariants.{Outside, Inside}
@@ -31,28 +31,28 @@ build size n m k e = record {
   size = size;
   points = replicate 40 (record { start = origin; state = Free });
   point_count = n;
-  lines = replicate 40 noLine;
+  lines = replicate 40 no_line;
   line_count = m;
   equations = replicate 40 (record { equation = e });
   equation_count = k;
-  measures = replicate 20 (record { measure = Measure.Radius noPoint noPoint });
+  measures = replicate 20 (record { measure = Measure.Radius no_point no_point });
   measure_count = 1;
 }
 
-forty-points : checkOf (build one 40 40 40 Held) ≡ Passes
-unfolding build checkOf origin le lt eq neg of_bits every flat_map fold moreRows rows_of
+forty-points : check_of (build one 40 40 40 Held) ≡ Passes
+unfolding build check_of origin le lt eq neg of_bits every flat_map fold more_rows rows_of
 forty-points = refl
 
-forty-one-points : checkOf (build one 41 40 40 Held) ≡ Ends TooMany
-unfolding build checkOf
+forty-one-points : check_of (build one 41 40 40 Held) ≡ Ends TooMany
+unfolding build check_of
 forty-one-points = refl
 
-least_size : checkOf (build 1/1024 1 0 0 Held) ≡ Passes
-unfolding build checkOf origin le lt eq neg of_bits every flat_map fold
+least_size : check_of (build 1/1024 1 0 0 Held) ≡ Passes
+unfolding build check_of origin le lt eq neg of_bits every flat_map fold
 least_size = refl
 
-no_size : checkOf (build zero⁺ 1 0 0 Held) ≡ Ends OutOfBounds
-unfolding build checkOf origin le lt eq neg of_bits every flat_map fold
+no_size : check_of (build zero⁺ 1 0 0 Held) ≡ Ends OutOfBounds
+unfolding build check_of origin le lt eq neg of_bits every flat_map fold
 no_size = refl
 
 -- Every number, side, axis and contact of the equations and of the measures, in turn: a NaN, a side that is neither 1 nor −1 and an axis
@@ -65,67 +65,67 @@ circle = Rad.Value one
 
 equations : Float → Float → ℕ → List Equation
 equations v s a =
-    Level noPoint noPoint a
-    ∷ Distance noPoint noPoint v
-    ∷ AxisDistance noPoint noPoint a one one
-    ∷ AxisDistance noPoint noPoint 0 v one
-    ∷ AxisDistance noPoint noPoint 1 one s
+    Level no_point no_point a
+    ∷ Distance no_point no_point v
+    ∷ AxisDistance no_point no_point a one one
+    ∷ AxisDistance no_point no_point 0 v one
+    ∷ AxisDistance no_point no_point 1 one s
     ∷ Length line v
-    ∷ PointLine noPoint line v one
-    ∷ PointLine noPoint line one s
-    ∷ Radius noPoint noPoint v
-    ∷ LineCircle line noPoint (Rad.Value v) one
-    ∷ LineCircle line noPoint circle s
-    ∷ CircleCircle noPoint (Rad.Value v) noPoint circle Outside
-    ∷ CircleCircle noPoint circle noPoint (Rad.Value v) Outside
-    ∷ CircleCircle noPoint circle noPoint circle (Inside s)
+    ∷ PointLine no_point line v one
+    ∷ PointLine no_point line one s
+    ∷ Radius no_point no_point v
+    ∷ LineCircle line no_point (Rad.Value v) one
+    ∷ LineCircle line no_point circle s
+    ∷ CircleCircle no_point (Rad.Value v) no_point circle Outside
+    ∷ CircleCircle no_point circle no_point (Rad.Value v) Outside
+    ∷ CircleCircle no_point circle no_point circle (Inside s)
     ∷ []
 
 measures : Float → ℕ → List Measure
 measures s a =
-    Measure.AxisDistance noPoint noPoint a one
-    ∷ Measure.AxisDistance noPoint noPoint 0 s
-    ∷ Measure.PointLine noPoint line s
+    Measure.AxisDistance no_point no_point a one
+    ∷ Measure.AxisDistance no_point no_point 0 s
+    ∷ Measure.PointLine no_point line s
     ∷ []
 
-bad-equations : map (λ e. checkOf (build one 1 1 1 e)) (equations nan half 2) ≡ replicate 14 (Ends OutOfBounds)
-unfolding build checkOf equations origin le lt eq neg of_bits every flat_map fold
+bad-equations : map (λ e. check_of (build one 1 1 1 e)) (equations nan half 2) ≡ replicate 14 (Ends OutOfBounds)
+unfolding build check_of equations origin le lt eq neg of_bits every flat_map fold
 bad-equations = refl
 
-nan-sides : map (λ e. checkOf (build one 1 1 1 e)) (equations nan nan 2) ≡ replicate 14 (Ends OutOfBounds)
-unfolding build checkOf equations origin le lt eq neg of_bits every flat_map fold
+nan-sides : map (λ e. check_of (build one 1 1 1 e)) (equations nan nan 2) ≡ replicate 14 (Ends OutOfBounds)
+unfolding build check_of equations origin le lt eq neg of_bits every flat_map fold
 nan-sides = refl
 
-good-equations : map (λ e. checkOf (build one 1 1 1 e)) (equations million (neg one) 1) ≡ replicate 14 Passes
-unfolding build checkOf equations origin le lt eq neg of_bits every flat_map fold moreRows rows_of
+good-equations : map (λ e. check_of (build one 1 1 1 e)) (equations million (neg one) 1) ≡ replicate 14 Passes
+unfolding build check_of equations origin le lt eq neg of_bits every flat_map fold more_rows rows_of
 good-equations = refl
 
 measured : Measure → Build
-measured d = sample origin one (blankPoint ∷ []) (noLine ∷ []) [] (record { measure = d } ∷ [])
+measured d = sample origin one (blank_point ∷ []) (no_line ∷ []) [] (record { measure = d } ∷ [])
 
-bad-measures : map (λ d. checkOf (measured d)) (measures half 2 ++ measures nan 2) ≡ replicate 6 (Ends OutOfBounds)
-unfolding measured measures checkOf origin le lt eq neg of_bits every flat_map fold
+bad-measures : map (λ d. check_of (measured d)) (measures half 2 ++ measures nan 2) ≡ replicate 6 (Ends OutOfBounds)
+unfolding measured measures check_of origin le lt eq neg of_bits every flat_map fold
 bad-measures = refl
 
-good-measures : map (λ d. checkOf (measured d)) (measures (neg one) 1) ≡ replicate 3 Passes
-unfolding measured measures checkOf origin le lt eq neg of_bits every flat_map fold
+good-measures : map (λ d. check_of (measured d)) (measures (neg one) 1) ≡ replicate 3 Passes
+unfolding measured measures check_of origin le lt eq neg of_bits every flat_map fold
 good-measures = refl
 
 -- 4 before 5: a NaN in an equation whose points are not there
-four-first : checkOf (build one 0 0 1 (Distance noPoint noPoint nan)) ≡ Ends OutOfBounds
-unfolding build checkOf origin le lt eq neg of_bits every flat_map fold
+four-first : check_of (build one 0 0 1 (Distance no_point no_point nan)) ≡ Ends OutOfBounds
+unfolding build check_of origin le lt eq neg of_bits every flat_map fold
 four-first = refl
 
 -- a line number is held to the lines, of which there are none
-no_line : checkOf (build one 40 0 1 (Length (record { 0 = 0 }) one)) ≡ Ends NoSuchItem
-unfolding build checkOf origin le lt eq neg of_bits every flat_map fold
-no_line = refl
+no-line : check_of (build one 40 0 1 (Length (record { 0 = 0 }) one)) ≡ Ends NoSuchItem
+unfolding build check_of origin le lt eq neg of_bits every flat_map fold
+no-line = refl
 
 -- two rows each: 32 equations have 64, 33 have 66
-rows-at-most : checkOf (build one 1 0 32 (Coincident noPoint noPoint)) ≡ Passes
-unfolding build checkOf origin le lt eq neg of_bits every flat_map fold moreRows rows_of
+rows-at-most : check_of (build one 1 0 32 (Coincident no_point no_point)) ≡ Passes
+unfolding build check_of origin le lt eq neg of_bits every flat_map fold more_rows rows_of
 rows-at-most = refl
 
-rows-too-many : checkOf (build one 1 0 33 (Coincident noPoint noPoint)) ≡ Ends TooManyRows
-unfolding build checkOf origin le lt eq neg of_bits every flat_map fold moreRows rows_of
+rows-too-many : check_of (build one 1 0 33 (Coincident no_point no_point)) ≡ Ends TooManyRows
+unfolding build check_of origin le lt eq neg of_bits every flat_map fold more_rows rows_of
 rows-too-many = refl

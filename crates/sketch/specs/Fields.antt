@@ -3,7 +3,7 @@
 use mathlib.Core.List.{List, [], ◌∷◌, ◌++◌, flat_map}
 use Rattle.std.specs.Prelude.{◌≡◌, ℕ, Float}
 use Rattle.plane.specs.declared.Vec2.{Vec2}
-use Rattle.sketch.specs.Parts.{points_of, lines_of, equations_of, measuresOf}
+use Rattle.sketch.specs.Parts.{points_of, lines_of, equations_of, measures_of}
 use Rattle.sketch.specs.declared.Build.{Build}
 use Rattle.sketch.specs.declared.Contact.{Contact}
 use Rattle.sketch.specs.declared.Equation.{Equation}
@@ -54,44 +54,44 @@ shape_of (Equation.Symmetric p q l) = (Kind.Symmetric, point p ∷ point q ∷ l
 shape_of (Equation.EqualRadius c₁ f₁ c₂ f₂) = (Kind.EqualRadius, point c₁ ∷ point f₁ ∷ point c₂ ∷ point f₂ ∷ [])
 
 -- measures have the fields of the equation of their name, but for its value
-abbrev pub measureShape : Measure → Gauge × List Field
-measureShape (Measure.Distance a b) = (Gauge.Distance, point a ∷ point b ∷ [])
-measureShape (Measure.AxisDistance a b x s) = (Gauge.AxisDistance, point a ∷ point b ∷ axis x ∷ side s ∷ [])
-measureShape (Measure.Length l) = (Gauge.Length, line l ∷ [])
-measureShape (Measure.PointLine p l s) = (Gauge.PointLine, point p ∷ line l ∷ side s ∷ [])
-measureShape (Measure.Radius c f) = (Gauge.Radius, point c ∷ point f ∷ [])
+abbrev pub measure_shape : Measure → Gauge × List Field
+measure_shape (Measure.Distance a b) = (Gauge.Distance, point a ∷ point b ∷ [])
+measure_shape (Measure.AxisDistance a b x s) = (Gauge.AxisDistance, point a ∷ point b ∷ axis x ∷ side s ∷ [])
+measure_shape (Measure.Length l) = (Gauge.Length, line l ∷ [])
+measure_shape (Measure.PointLine p l s) = (Gauge.PointLine, point p ∷ line l ∷ side s ∷ [])
+measure_shape (Measure.Radius c f) = (Gauge.Radius, point c ∷ point f ∷ [])
 
 -- the fields of an item of each of a build's four lists
-abbrev pub placeFields : Vec2 → List Field
-placeFields p = value p.x ∷ value p.y ∷ []
+abbrev pub place_fields : Vec2 → List Field
+place_fields p = value p.x ∷ value p.y ∷ []
 
-abbrev pub stateFields : State → List Field
-stateFields Free = []
-stateFields Kept = []
-stateFields (Placed p) = placeFields p
+abbrev pub state_fields : State → List Field
+state_fields Free = []
+state_fields Kept = []
+state_fields (Placed p) = place_fields p
 
-abbrev pub pointFields : Point → List Field
-pointFields p = placeFields p.start ++ stateFields p.state
+abbrev pub point_fields : Point → List Field
+point_fields p = place_fields p.start ++ state_fields p.state
 
-abbrev pub lineFields : Line → List Field
-lineFields l = point l.from ∷ point l.to ∷ []
+abbrev pub line_fields : Line → List Field
+line_fields l = point l.from ∷ point l.to ∷ []
 
-abbrev pub equationFields : Equation → List Field
-equationFields e = (shape_of e).1
+abbrev pub equation_fields : Equation → List Field
+equation_fields e = (shape_of e).1
 
-abbrev pub measureFields : Measure → List Field
-measureFields d = (measureShape d).1
+abbrev pub measure_fields : Measure → List Field
+measure_fields d = (measure_shape d).1
 
 -- every field of a build
-abbrev pub buildFields : Build → List Field
-buildFields b =
-    placeFields b.centre
+abbrev pub build_fields : Build → List Field
+build_fields b =
+    place_fields b.centre
     ++ size b.size ∷ []
-    ++ flat_map pointFields (points_of b)
-    ++ flat_map lineFields (lines_of b)
-    ++ flat_map (λ a. equationFields a.equation) (equations_of b)
-    ++ flat_map (λ a. measureFields a.measure) (measuresOf b)
+    ++ flat_map point_fields (points_of b)
+    ++ flat_map line_fields (lines_of b)
+    ++ flat_map (λ a. equation_fields a.equation) (equations_of b)
+    ++ flat_map (λ a. measure_fields a.measure) (measures_of b)
 
 -- no field is left out: two of one shape are the same (`shapes-are-whole`, proofs/Rebuilt.antt)
 abbrev pub ShapesAreWhole : Type 0
-ShapesAreWhole = ((e f : Equation) → shape_of e ≡ shape_of f → e ≡ f) × ((d f : Measure) → measureShape d ≡ measureShape f → d ≡ f)
+ShapesAreWhole = ((e f : Equation) → shape_of e ≡ shape_of f → e ≡ f) × ((d f : Measure) → measure_shape d ≡ measure_shape f → d ≡ f)

@@ -2,15 +2,15 @@
 -- (proofs/Given.antt).
 use Rattle.std.specs.Prelude.{true, false, ◌↔◌, ◌≡◌}
 use Rattle.loops.specs.Numbers.{refused}
-use Rattle.sketch.specs.Check.{checkOf, meaningOf, overBound, outOfBounds, refersToNothing, overRows}
+use Rattle.sketch.specs.Check.{check_of, meaning_of, over_bound, out_of_bounds, refers_to_nothing, over_rows}
 use Rattle.sketch.specs.declared.Build.{Build}
 use Rattle.sketch.specs.declared.Checked.TheVariants.{Passes}
 
 pub record GivenExactly (b : Build) : Type 0 where
-  pub three : meaningOf b (checkOf b) ≡ refused 3 ↔ overBound b ≡ true
-  pub four : meaningOf b (checkOf b) ≡ refused 4 ↔ (overBound b ≡ false) × (outOfBounds b ≡ true)
-  pub five : meaningOf b (checkOf b) ≡ refused 5 ↔ (overBound b ≡ false) × (outOfBounds b ≡ false) × (refersToNothing b ≡ true)
-  pub six : meaningOf b (checkOf b) ≡ refused 6
-      ↔ (overBound b ≡ false) × (outOfBounds b ≡ false) × (refersToNothing b ≡ false) × (overRows b ≡ true)
-  pub passes : checkOf b ≡ Passes
-      ↔ (overBound b ≡ false) × (outOfBounds b ≡ false) × (refersToNothing b ≡ false) × (overRows b ≡ false)
+  pub three : meaning_of b (check_of b) ≡ refused 3 ↔ over_bound b ≡ true
+  pub four : meaning_of b (check_of b) ≡ refused 4 ↔ (over_bound b ≡ false) × (out_of_bounds b ≡ true)
+  pub five : meaning_of b (check_of b) ≡ refused 5 ↔ (over_bound b ≡ false) × (out_of_bounds b ≡ false) × (refers_to_nothing b ≡ true)
+  pub six : meaning_of b (check_of b) ≡ refused 6
+      ↔ (over_bound b ≡ false) × (out_of_bounds b ≡ false) × (refers_to_nothing b ≡ false) × (over_rows b ≡ true)
+  pub passes : check_of b ≡ Passes
+      ↔ (over_bound b ≡ false) × (out_of_bounds b ≡ false) × (refers_to_nothing b ≡ false) × (over_rows b ≡ false)

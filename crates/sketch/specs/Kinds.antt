@@ -50,5 +50,5 @@ abbrev pub valueless : List Sort → List Sort
 valueless [] = []
 valueless (f ∷ l) = omitted f (valueless l)
 
-abbrev pub measuredFields : Gauge → List Sort
-measuredFields g = valueless (fields_of (kind_of g))
+abbrev pub measured_fields : Gauge → List Sort
+measured_fields g = valueless (fields_of (kind_of g))

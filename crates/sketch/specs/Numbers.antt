@@ -5,7 +5,7 @@ use Rattle.std.specs.Float.Ieee.{le, eq, neg}
 use Rattle.floats.specs.Ops.{one, million, 1/1024}
 use Rattle.loops.specs.Turns.{every}
 use Rattle.plane.specs.declared.Vec2.{Vec2}
-use Rattle.sketch.specs.Fields.{Field, point, line, value, size, axis, side, radius, contact, placeFields, stateFields, pointFields, equationFields, measureFields, buildFields}
+use Rattle.sketch.specs.Fields.{Field, point, line, value, size, axis, side, radius, contact, place_fields, state_fields, point_fields, equation_fields, measure_fields, build_fields}
 use Rattle.sketch.specs.declared.Active.{Active}
 use Rattle.sketch.specs.declared.Build.{Build}
 use Rattle.sketch.specs.declared.Contact.{Contact}
@@ -24,56 +24,56 @@ bounded x = le (neg million) x && le x million
 abbrev pub sized : Float → Bool
 sized x = le 1/1024 x && le x million
 
-abbrev pub isSide : Float → Bool
-isSide s = eq s one || eq s (neg one)
+abbrev pub is_side : Float → Bool
+is_side s = eq s one || eq s (neg one)
 
-abbrev pub isAxis : ℕ → Bool
-isAxis a = ltb a 2
+abbrev pub is_axis : ℕ → Bool
+is_axis a = ltb a 2
 
-abbrev pub boundedRad : Rad → Bool
-boundedRad (Rad.Point p) = true
-boundedRad (Rad.Value v) = bounded v
+abbrev pub bounded_rad : Rad → Bool
+bounded_rad (Rad.Point p) = true
+bounded_rad (Rad.Value v) = bounded v
 
-abbrev pub boundedContact : Contact → Bool
-boundedContact Outside = true
-boundedContact (Inside s) = isSide s
+abbrev pub bounded_contact : Contact → Bool
+bounded_contact Outside = true
+bounded_contact (Inside s) = is_side s
 
-abbrev pub boundedField : Field → Bool
-boundedField (point p) = true
-boundedField (line l) = true
-boundedField (value v) = bounded v
-boundedField (size v) = sized v
-boundedField (axis a) = isAxis a
-boundedField (side s) = isSide s
-boundedField (radius r) = boundedRad r
-boundedField (contact k) = boundedContact k
+abbrev pub bounded_field : Field → Bool
+bounded_field (point p) = true
+bounded_field (line l) = true
+bounded_field (value v) = bounded v
+bounded_field (size v) = sized v
+bounded_field (axis a) = is_axis a
+bounded_field (side s) = is_side s
+bounded_field (radius r) = bounded_rad r
+bounded_field (contact k) = bounded_contact k
 
 -- every number of the build is finite and within its bound
-abbrev pub boundedBuild : Build → Bool
-boundedBuild b = every boundedField (buildFields b)
+abbrev pub bounded_build : Build → Bool
+bounded_build b = every bounded_field (build_fields b)
 
 -- one is not
 abbrev pub SomeOut : Build → Type 0
-SomeOut b = (f : Field) × Memᴰ f (buildFields b) × (boundedField f ≡ false)
+SomeOut b = (f : Field) × Memᴰ f (build_fields b) × (bounded_field f ≡ false)
 
 -- the same of an item
-abbrev pub boundedVec : Vec2 → Bool
-boundedVec p = every boundedField (placeFields p)
+abbrev pub bounded_vec : Vec2 → Bool
+bounded_vec p = every bounded_field (place_fields p)
 
-abbrev pub boundedState : State → Bool
-boundedState s = every boundedField (stateFields s)
+abbrev pub bounded_state : State → Bool
+bounded_state s = every bounded_field (state_fields s)
 
-abbrev pub boundedPoint : Point → Bool
-boundedPoint p = every boundedField (pointFields p)
+abbrev pub bounded_point : Point → Bool
+bounded_point p = every bounded_field (point_fields p)
 
-abbrev pub boundedEquation : Equation → Bool
-boundedEquation e = every boundedField (equationFields e)
+abbrev pub bounded_equation : Equation → Bool
+bounded_equation e = every bounded_field (equation_fields e)
 
-abbrev pub boundedActive : Active → Bool
-boundedActive a = boundedEquation a.equation
+abbrev pub bounded_active : Active → Bool
+bounded_active a = bounded_equation a.equation
 
-abbrev pub boundedMeasure : Measure → Bool
-boundedMeasure d = every boundedField (measureFields d)
+abbrev pub bounded_measure : Measure → Bool
+bounded_measure d = every bounded_field (measure_fields d)
 
-abbrev pub boundedMeasured : Measured → Bool
-boundedMeasured a = boundedMeasure a.measure
+abbrev pub bounded_measured : Measured → Bool
+bounded_measured a = bounded_measure a.measure

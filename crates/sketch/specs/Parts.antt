@@ -15,5 +15,5 @@ lines_of b = take b.line_count b.lines
 abbrev pub equations_of : Build → List Active
 equations_of b = take b.equation_count b.equations
 
-abbrev pub measuresOf : Build → List Measured
-measuresOf b = take b.measure_count b.measures
+abbrev pub measures_of : Build → List Measured
+measures_of b = take b.measure_count b.measures

@@ -30,8 +30,8 @@ rows_of (Equation.ArcMidpoint p c f t) = 2
 rows_of (Equation.Symmetric p q l) = 2
 rows_of (Equation.EqualRadius c₁ f₁ c₂ f₂) = 1
 
-unfoldable pub moreRows : ℕ → Active → ℕ
-moreRows n a = n + rows_of a.equation
+unfoldable pub more_rows : ℕ → Active → ℕ
+more_rows n a = n + rows_of a.equation
 
-abbrev pub rowsOfBuild : Build → ℕ
-rowsOfBuild b = fold moreRows 0 (equations_of b)
+abbrev pub rows_of_build : Build → ℕ
+rows_of_build b = fold more_rows 0 (equations_of b)

@@ -1,8 +1,8 @@
 // The check before a fit: document 01's 3, 4, 5 and 6, in 01's order.
 ghost use Rattle.std.specs.Prelude.{◌≡◌, false};
-ghost use Rattle.sketch.specs.Check.{ordered, overBound, overRows, Checks};
-ghost use Rattle.sketch.specs.Indices.{foundBuild};
-ghost use Rattle.sketch.specs.Numbers.{boundedBuild};
+ghost use Rattle.sketch.specs.Check.{ordered, over_bound, over_rows, Checks};
+ghost use Rattle.sketch.specs.Indices.{found_build};
+ghost use Rattle.sketch.specs.Numbers.{bounded_build};
 
 use crate::counts::rows_of_all;
 use crate::indices::{equations_found, lines_found, measures_found};
@@ -11,14 +11,14 @@ use crate::{Build, Checked, Ending};
 
 // 3: a count over its bound.
 pub fn counts_over(b: Build) -> bool
-    ensures { result ≡ overBound b }
+    ensures { result ≡ over_bound b }
 {
     (b.point_count > 40) | (b.line_count > 40) | (b.equation_count > 40) | (b.measure_count > 20)
 }
 
 fn build_bounded(b: Build) -> bool
-    requires { overBound b ≡ false }
-    ensures { result ≡ boundedBuild b }
+    requires { over_bound b ≡ false }
+    ensures { result ≡ bounded_build b }
 {
     let centre = b.centre;
     let points = b.points;
@@ -32,8 +32,8 @@ fn build_bounded(b: Build) -> bool
 }
 
 fn build_found(b: Build) -> bool
-    requires { overBound b ≡ false }
-    ensures { result ≡ foundBuild b }
+    requires { over_bound b ≡ false }
+    ensures { result ≡ found_build b }
 {
     let lines = b.lines;
     let equations = b.equations;
@@ -44,8 +44,8 @@ fn build_found(b: Build) -> bool
 }
 
 fn rows_over(b: Build) -> bool
-    requires { overBound b ≡ false }
-    ensures { result ≡ overRows b }
+    requires { over_bound b ≡ false }
+    ensures { result ≡ over_rows b }
 {
     let equations = b.equations;
     64 < rows_of_all(equations, b.equation_count)

@@ -1,7 +1,7 @@
 // The residual rows of an equation and of a build.
 ghost use Rattle.std.specs.Prelude.{◌≡◌, ◌≤◌, take};
 ghost use Rattle.loops.specs.Turns.{fold};
-ghost use Rattle.sketch.specs.Rows.{rows_of, moreRows};
+ghost use Rattle.sketch.specs.Rows.{rows_of, more_rows};
 
 use crate::{Active, Equation};
 
@@ -36,7 +36,7 @@ pub fn rows(e: Equation) -> usize
 // The rows of the first n equations.
 pub(crate) fn rows_of_all(equations: [Active; 40], n: usize) -> usize
     requires { n ≤ 40 }
-    ensures { result ≡ fold moreRows 0 (take n equations) }
+    ensures { result ≡ fold more_rows 0 (take n equations) }
 {
     let mut total = 0;
     for i in 0..n {

@@ -1,18 +1,18 @@
 // Whether what a build refers to is there, among n points and m lines.
 ghost use Rattle.std.specs.Prelude.{◌≡◌, ◌≤◌, take};
 ghost use Rattle.loops.specs.Turns.{every};
-ghost use Rattle.sketch.specs.Indices.{foundLine, foundRad, foundEquation, foundActive, foundMeasure, foundMeasured};
+ghost use Rattle.sketch.specs.Indices.{found_line, found_rad, found_equation, found_active, found_measure, found_measured};
 
 use crate::{Active, Equation, Line, Measure, Measured, Rad};
 
 fn line_found(l: Line, n: usize) -> bool
-    ensures { result ≡ foundLine n l }
+    ensures { result ≡ found_line n l }
 {
     (l.from.0 < n) & (l.to.0 < n)
 }
 
 fn rad_found(r: Rad, n: usize) -> bool
-    ensures { result ≡ foundRad n r }
+    ensures { result ≡ found_rad n r }
 {
     match r {
         Rad::Point(p) => p.0 < n,
@@ -21,7 +21,7 @@ fn rad_found(r: Rad, n: usize) -> bool
 }
 
 fn equation_found(e: Equation, n: usize, m: usize) -> bool
-    ensures { result ≡ foundEquation n m e }
+    ensures { result ≡ found_equation n m e }
 {
     match e {
         Equation::Coincident(a, b) => (a.0 < n) & (b.0 < n),
@@ -51,7 +51,7 @@ fn equation_found(e: Equation, n: usize, m: usize) -> bool
 }
 
 fn measure_found(d: Measure, n: usize, m: usize) -> bool
-    ensures { result ≡ foundMeasure n m d }
+    ensures { result ≡ found_measure n m d }
 {
     match d {
         Measure::Distance(a, b) => (a.0 < n) & (b.0 < n),
@@ -65,7 +65,7 @@ fn measure_found(d: Measure, n: usize, m: usize) -> bool
 // Of the first k lines, equations and measures.
 pub(crate) fn lines_found(lines: [Line; 40], k: usize, n: usize) -> bool
     requires { k ≤ 40 }
-    ensures { result ≡ every (foundLine n) (take k lines) }
+    ensures { result ≡ every (found_line n) (take k lines) }
 {
     for i in 0..k {
         let l = lines[i];
@@ -78,7 +78,7 @@ pub(crate) fn lines_found(lines: [Line; 40], k: usize, n: usize) -> bool
 
 pub(crate) fn equations_found(equations: [Active; 40], k: usize, n: usize, m: usize) -> bool
     requires { k ≤ 40 }
-    ensures { result ≡ every (foundActive n m) (take k equations) }
+    ensures { result ≡ every (found_active n m) (take k equations) }
 {
     for i in 0..k {
         let a = equations[i];
@@ -92,7 +92,7 @@ pub(crate) fn equations_found(equations: [Active; 40], k: usize, n: usize, m: us
 
 pub(crate) fn measures_found(measures: [Measured; 20], k: usize, n: usize, m: usize) -> bool
     requires { k ≤ 20 }
-    ensures { result ≡ every (foundMeasured n m) (take k measures) }
+    ensures { result ≡ every (found_measured n m) (take k measures) }
 {
     for i in 0..k {
         let a = measures[i];

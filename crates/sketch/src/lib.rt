@@ -1,5 +1,8 @@
 // The build: its numbers, points, lines, equations and measures, and the check before a fit (equations.rs, `Eq`, `Rad`,
 // `Contact`, `Equations`, `involved`). What stands past a count is no part of the build and may be anything.
+
+#![tactic(auto)]
+
 mod checks;
 mod counts;
 mod indices;

@@ -1,7 +1,7 @@
 // The bounds of a build's numbers.
 ghost use Rattle.std.specs.Prelude.{◌≡◌, ◌≤◌, take};
 ghost use Rattle.loops.specs.Turns.{every};
-ghost use Rattle.sketch.specs.Numbers.{bounded, sized, isSide, boundedVec, boundedState, boundedPoint, boundedRad, boundedContact, boundedEquation, boundedActive, boundedMeasure, boundedMeasured};
+ghost use Rattle.sketch.specs.Numbers.{bounded, sized, is_side, bounded_vec, bounded_state, bounded_point, bounded_rad, bounded_contact, bounded_equation, bounded_active, bounded_measure, bounded_measured};
 
 use crate::{Active, Contact, Equation, Measure, Measured, Point, Rad, State};
 use plane::Vec2;
@@ -19,19 +19,19 @@ pub(crate) fn is_sized(x: f64) -> bool
 }
 
 fn is_side(s: f64) -> bool
-    ensures { result ≡ isSide s }
+    ensures { result ≡ is_side s }
 {
     (s == 1.0) | (s == -1.0)
 }
 
 pub(crate) fn vec_bounded(p: Vec2) -> bool
-    ensures { result ≡ boundedVec p }
+    ensures { result ≡ bounded_vec p }
 {
     is_bounded(p.x) & is_bounded(p.y)
 }
 
 fn state_bounded(s: State) -> bool
-    ensures { result ≡ boundedState s }
+    ensures { result ≡ bounded_state s }
 {
     match s {
         State::Free => true,
@@ -41,7 +41,7 @@ fn state_bounded(s: State) -> bool
 }
 
 fn point_bounded(p: Point) -> bool
-    ensures { result ≡ boundedPoint p }
+    ensures { result ≡ bounded_point p }
 {
     let start = p.start;
     let state = p.state;
@@ -49,7 +49,7 @@ fn point_bounded(p: Point) -> bool
 }
 
 fn rad_bounded(r: Rad) -> bool
-    ensures { result ≡ boundedRad r }
+    ensures { result ≡ bounded_rad r }
 {
     match r {
         Rad::Point(_) => true,
@@ -58,7 +58,7 @@ fn rad_bounded(r: Rad) -> bool
 }
 
 fn contact_bounded(c: Contact) -> bool
-    ensures { result ≡ boundedContact c }
+    ensures { result ≡ bounded_contact c }
 {
     match c {
         Contact::Outside => true,
@@ -67,7 +67,7 @@ fn contact_bounded(c: Contact) -> bool
 }
 
 fn equation_bounded(e: Equation) -> bool
-    ensures { result ≡ boundedEquation e }
+    ensures { result ≡ bounded_equation e }
 {
     match e {
         Equation::Coincident(_, _) => true,
@@ -99,7 +99,7 @@ fn equation_bounded(e: Equation) -> bool
 }
 
 fn measure_bounded(m: Measure) -> bool
-    ensures { result ≡ boundedMeasure m }
+    ensures { result ≡ bounded_measure m }
 {
     match m {
         Measure::Distance(_, _) => true,
@@ -113,7 +113,7 @@ fn measure_bounded(m: Measure) -> bool
 // Of the first n points, equations and measures.
 pub(crate) fn points_bounded(points: [Point; 40], n: usize) -> bool
     requires { n ≤ 40 }
-    ensures { result ≡ every boundedPoint (take n points) }
+    ensures { result ≡ every bounded_point (take n points) }
 {
     for i in 0..n {
         let p = points[i];
@@ -126,7 +126,7 @@ pub(crate) fn points_bounded(points: [Point; 40], n: usize) -> bool
 
 pub(crate) fn equations_bounded(equations: [Active; 40], n: usize) -> bool
     requires { n ≤ 40 }
-    ensures { result ≡ every boundedActive (take n equations) }
+    ensures { result ≡ every bounded_active (take n equations) }
 {
     for i in 0..n {
         let a = equations[i];
@@ -140,7 +140,7 @@ pub(crate) fn equations_bounded(equations: [Active; 40], n: usize) -> bool
 
 pub(crate) fn measures_bounded(measures: [Measured; 20], n: usize) -> bool
     requires { n ≤ 20 }
-    ensures { result ≡ every boundedMeasured (take n measures) }
+    ensures { result ≡ every bounded_measured (take n measures) }
 {
     for i in 0..n {
         let d = measures[i];

@@ -1,6 +1,6 @@
 // The points that an equation touches.
 ghost use Rattle.std.specs.Prelude.{◌≡◌, ◌∷◌, [], ◌++◌};
-ghost use Rattle.sketch.specs.Involved.{involvedOf, touchedOf, line_at, onCircle};
+ghost use Rattle.sketch.specs.Involved.{involved_of, touched_of, line_at, on_circle};
 
 use crate::{Equation, Line, LineNo, PointNo, Rad, Touched};
 
@@ -19,7 +19,7 @@ fn line_at(lines: [Line; 40], l: LineNo) -> Line
 }
 
 fn none() -> Touched
-    ensures { result ≡ touchedOf [] }
+    ensures { result ≡ touched_of [] }
 {
     Touched {
         points: [PointNo(0), PointNo(0), PointNo(0), PointNo(0)],
@@ -28,7 +28,7 @@ fn none() -> Touched
 }
 
 fn two(a: PointNo, b: PointNo) -> Touched
-    ensures { result ≡ touchedOf (a ∷ b ∷ []) }
+    ensures { result ≡ touched_of (a ∷ b ∷ []) }
 {
     Touched {
         points: [a, b, PointNo(0), PointNo(0)],
@@ -37,7 +37,7 @@ fn two(a: PointNo, b: PointNo) -> Touched
 }
 
 fn three(a: PointNo, b: PointNo, c: PointNo) -> Touched
-    ensures { result ≡ touchedOf (a ∷ b ∷ c ∷ []) }
+    ensures { result ≡ touched_of (a ∷ b ∷ c ∷ []) }
 {
     Touched {
         points: [a, b, c, PointNo(0)],
@@ -46,7 +46,7 @@ fn three(a: PointNo, b: PointNo, c: PointNo) -> Touched
 }
 
 fn four(a: PointNo, b: PointNo, c: PointNo, d: PointNo) -> Touched
-    ensures { result ≡ touchedOf (a ∷ b ∷ c ∷ d ∷ []) }
+    ensures { result ≡ touched_of (a ∷ b ∷ c ∷ d ∷ []) }
 {
     Touched {
         points: [a, b, c, d],
@@ -55,37 +55,37 @@ fn four(a: PointNo, b: PointNo, c: PointNo, d: PointNo) -> Touched
 }
 
 fn line_alone(l: Line) -> Touched
-    ensures { result ≡ touchedOf (l.from ∷ l.to ∷ []) }
+    ensures { result ≡ touched_of (l.from ∷ l.to ∷ []) }
 {
     two(l.from, l.to)
 }
 
 fn point_line(p: PointNo, l: Line) -> Touched
-    ensures { result ≡ touchedOf (p ∷ l.from ∷ l.to ∷ []) }
+    ensures { result ≡ touched_of (p ∷ l.from ∷ l.to ∷ []) }
 {
     three(p, l.from, l.to)
 }
 
 fn two_line(p: PointNo, q: PointNo, l: Line) -> Touched
-    ensures { result ≡ touchedOf (p ∷ q ∷ l.from ∷ l.to ∷ []) }
+    ensures { result ≡ touched_of (p ∷ q ∷ l.from ∷ l.to ∷ []) }
 {
     four(p, q, l.from, l.to)
 }
 
 fn line_two(l: Line, p: PointNo, q: PointNo) -> Touched
-    ensures { result ≡ touchedOf (l.from ∷ l.to ∷ p ∷ q ∷ []) }
+    ensures { result ≡ touched_of (l.from ∷ l.to ∷ p ∷ q ∷ []) }
 {
     four(l.from, l.to, p, q)
 }
 
 fn line_ends(a: Line, b: Line) -> Touched
-    ensures { result ≡ touchedOf (a.from ∷ a.to ∷ b.from ∷ b.to ∷ []) }
+    ensures { result ≡ touched_of (a.from ∷ a.to ∷ b.from ∷ b.to ∷ []) }
 {
     four(a.from, a.to, b.from, b.to)
 }
 
 fn line_circle(l: Line, c: PointNo, rad: Rad) -> Touched
-    ensures { result ≡ touchedOf (l.from ∷ l.to ∷ c ∷ onCircle rad ++ []) }
+    ensures { result ≡ touched_of (l.from ∷ l.to ∷ c ∷ on_circle rad ++ []) }
 {
     match rad {
         Rad::Point(p) => four(l.from, l.to, c, p),
@@ -94,7 +94,7 @@ fn line_circle(l: Line, c: PointNo, rad: Rad) -> Touched
 }
 
 fn circle_circle(c1: PointNo, r1: Rad, c2: PointNo, r2: Rad) -> Touched
-    ensures { result ≡ touchedOf (c1 ∷ onCircle r1 ++ (c2 ∷ onCircle r2 ++ [])) }
+    ensures { result ≡ touched_of (c1 ∷ on_circle r1 ++ (c2 ∷ on_circle r2 ++ [])) }
 {
     match r1 {
         Rad::Point(p1) => match r2 {
@@ -109,7 +109,7 @@ fn circle_circle(c1: PointNo, r1: Rad, c2: PointNo, r2: Rad) -> Touched
 }
 
 pub fn involved(e: Equation, lines: [Line; 40]) -> Touched
-    ensures { result ≡ touchedOf (involvedOf lines e) }
+    ensures { result ≡ touched_of (involved_of lines e) }
 {
     match e {
         Equation::Coincident(a, b) => two(a, b),

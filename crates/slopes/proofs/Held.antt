@@ -11,13 +11,13 @@ use Rattle.loops.proofs.Turning.{fold_next}
 use Rattle.sketch.specs.declared.Active.{Active}
 use Rattle.sketch.specs.declared.Equation.{Equation}
 use Rattle.sketch.specs.declared.Line.{Line}
-use Rattle.rows.specs.Column.{Laid, laid, equationAt, rows_at}
+use Rattle.rows.specs.Column.{Laid, laid, equation_at, rows_at}
 use Rattle.rows.specs.Entries.{Row}
-use Rattle.rows.specs.Kinds.{rowsOfEquation}
+use Rattle.rows.specs.Kinds.{rows_of_equation}
 use Rattle.rows.specs.Located.{at_of}
 use Rattle.rows.proofs.Held.{past-is-held}
-use Rattle.slopes.specs.Arms.{rows_from, rowsInto}
-use Rattle.slopes.specs.Dense.{nextRow, rowInto, rowsNext}
+use Rattle.slopes.specs.Arms.{rows_from, rows_into}
+use Rattle.slopes.specs.Dense.{next_row, row_into, rows_next}
 use Rattle.slopes.specs.declared.dense.Into.{Into}
 
 -- a row's place in a table of at most 80 rows and 80 columns
@@ -30,8 +30,8 @@ within h = let k = h.0 in (omega arith, h.1)
 
 -- ---- the rows of one equation
 
-pub two-rows : (P C : List ℕ) (to : Into) (j mid j' : List Float) (r s : Row) → mid ≡ rowInto P C to.n to.base j r.entries
-    → j' ≡ rowInto P C to.n (to.base + to.n) mid s.entries → laid 2 j' ≡ rowsInto P C to j (r ∷ s ∷ [])
+pub two-rows : (P C : List ℕ) (to : Into) (j mid j' : List Float) (r s : Row) → mid ≡ row_into P C to.n to.base j r.entries
+    → j' ≡ row_into P C to.n (to.base + to.n) mid s.entries → laid 2 j' ≡ rows_into P C to j (r ∷ s ∷ [])
 unfolding rows_from
 two-rows P C to j mid j' r s p q = rw (q, p)
 
@@ -43,17 +43,17 @@ after row (laid m j) = laid (row + m) j
 
 module _ (P C : List ℕ) (n : ℕ) where
   rows-from : (row base : ℕ) (j : List Float) (rs : List Row) → base ≡ row * n
-      → laid (row + length rs) (rows_from P C (record { n = n; base = base }) j rs) ≡ fold (nextRow P C n) (laid row j) rs
-  unfolding fold nextRow rows_from
+      → laid (row + length rs) (rows_from P C (record { n = n; base = base }) j rs) ≡ fold (next_row P C n) (laid row j) rs
+  unfolding fold next_row rows_from
   rows-from row base j [] e = let z : row + 0 ≡ row = omega arith in ap (λ (k : ℕ). laid k j) z
   rows-from row base j (r ∷ rs) e =
       let next : base + n ≡ (row + 1) * n = rw (e, add-mul row 1 n) (omega arith) in
-      let rest = rows-from (row + 1) (base + n) (rowInto P C n base j r.entries) rs next in
+      let rest = rows-from (row + 1) (base + n) (row_into P C n base j r.entries) rs next in
       let more : row + suc (length rs) ≡ row + 1 + length rs = omega arith in
-      ap (λ (k : ℕ). laid k (rows_from P C (record { n = n; base = base + n }) (rowInto P C n base j r.entries) rs)) more ∙ rest ∙ ap (λ (k : ℕ). fold (nextRow P C n) (laid (row + 1) (rowInto P C n k j r.entries)) rs) e
+      ap (λ (k : ℕ). laid k (rows_from P C (record { n = n; base = base + n }) (row_into P C n base j r.entries) rs)) more ∙ rest ∙ ap (λ (k : ℕ). fold (next_row P C n) (laid (row + 1) (row_into P C n k j r.entries)) rs) e
 
-  module _ (row m : ℕ) (j j' : List Float) (rs : List Row) (h : laid m j' ≡ rowsInto P C (record { n = n; base = row * n }) j rs) where
-    pub rows-laid : laid (row + m) j' ≡ fold (nextRow P C n) (laid row j) rs
+  module _ (row m : ℕ) (j j' : List Float) (rs : List Row) (h : laid m j' ≡ rows_into P C (record { n = n; base = row * n }) j rs) where
+    pub rows-laid : laid (row + m) j' ≡ fold (next_row P C n) (laid row j) rs
     unfolding after fold
     rows-laid = ap (after row) h ∙ rows-from row (row * n) j rs refl
 
@@ -64,16 +64,16 @@ module _ (P C : List ℕ) (n : ℕ) where
 -- ---- a turn of the loop over the chosen equations
 
 module _ (es : List Active) (ls : List Line) (P : List ℕ) (x : List Float) (chosen : List ℕ) (i : ℕ) (h : i < length chosen) where
-  pub rows-turn : (C : List ℕ) (n row row' : ℕ) (j j' : List Float) (e : Equation) (R : Laid) → e ≡ equationAt es (get_or chosen i 0)
-      → laid row' j' ≡ fold (nextRow P C n) (laid row j) (rowsOfEquation ls (at_of P x) e)
-      → fold (rowsNext es ls P x C n) (laid row j) (drop i chosen) ≡ R → fold (rowsNext es ls P x C n) (laid row' j') (drop (i + 1) chosen) ≡ R
-  unfolding rowsNext rows_at
-  rows-turn C n row row' j j' e R p q t = fold_next 0 (rowsNext es ls P x C n) chosen i (laid row j) (laid row' j') R h (rw p at q) t
+  pub rows-turn : (C : List ℕ) (n row row' : ℕ) (j j' : List Float) (e : Equation) (R : Laid) → e ≡ equation_at es (get_or chosen i 0)
+      → laid row' j' ≡ fold (next_row P C n) (laid row j) (rows_of_equation ls (at_of P x) e)
+      → fold (rows_next es ls P x C n) (laid row j) (drop i chosen) ≡ R → fold (rows_next es ls P x C n) (laid row' j') (drop (i + 1) chosen) ≡ R
+  unfolding rows_next rows_at
+  rows-turn C n row row' j j' e R p q t = fold_next 0 (rows_next es ls P x C n) chosen i (laid row j) (laid row' j') R h (rw p at q) t
 
-  no_row : (C : List ℕ) (n row : ℕ) (j : List Float) → laid row j ≡ fold (nextRow P C n) (laid row j) (rowsOfEquation ls (at_of P x) Equation.Held)
-  unfolding fold rowsOfEquation
+  no_row : (C : List ℕ) (n row : ℕ) (j : List Float) → laid row j ≡ fold (next_row P C n) (laid row j) (rows_of_equation ls (at_of P x) Equation.Held)
+  unfolding fold rows_of_equation
   no_row C n row j = refl
 
   pub rows-past : (C : List ℕ) (n row : ℕ) (j : List Float) (R : Laid) → length es ≤ get_or chosen i 0
-      → fold (rowsNext es ls P x C n) (laid row j) (drop i chosen) ≡ R → fold (rowsNext es ls P x C n) (laid row j) (drop (i + 1) chosen) ≡ R
+      → fold (rows_next es ls P x C n) (laid row j) (drop i chosen) ≡ R → fold (rows_next es ls P x C n) (laid row j) (drop (i + 1) chosen) ≡ R
   rows-past C n row j R k t = rows-turn C n row row j j Equation.Held R (past-is-held es _ k) (no_row C n row j) t

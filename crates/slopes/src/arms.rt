@@ -3,10 +3,10 @@
 ghost use Rattle.std.specs.Prelude.{◌≡◌, ◌≤◌};
 ghost use Rattle.floats.specs.Ops.{zero⁺};
 ghost use Rattle.rows.specs.Column.{laid};
-ghost use Rattle.rows.specs.Ends.{rowsGiven};
-ghost use Rattle.rows.specs.Kinds.{nowhere, coincidentOf, levelKindOf, parallelOf, perpendicularOf, collinearOf, equal_of, distance_of, axisDistanceOf, length_of, pointLineOf, arcEndsOf, radiusKindOf, lineCircleOf, circleCircleOf, lineArcAtOf, arcArcAtOf, midpointOf, arcMidpointOf, symmetricOf, equalRadiusOf};
+ghost use Rattle.rows.specs.Ends.{rows_given};
+ghost use Rattle.rows.specs.Kinds.{nowhere, coincident_of, level_kind_of, parallel_of, perpendicular_of, collinear_of, equal_of, distance_of, axis_distance_of, length_of, point_line_of, arc_ends_of, radius_kind_of, line_circle_of, circle_circle_of, line_arc_at_of, arc_arc_at_of, midpoint_of, arc_midpoint_of, symmetric_of, equal_radius_of};
 ghost use Rattle.rows.specs.Located.{at_of};
-ghost use Rattle.slopes.specs.Arms.{rowsInto};
+ghost use Rattle.slopes.specs.Arms.{rows_into};
 
 use crate::dense::{Into, clear_row, next, push};
 use crate::through::{Leg, radius, through1, through2};
@@ -28,7 +28,7 @@ fn coincident(
     b: PointNo,
 ) -> usize
     requires { (to.base ≤ 6320) × (to.n ≤ 80) }
-    ensures { laid result jac.new ≡ rowsInto places.now columns.now to jac.old (coincidentOf nowhere a b) }
+    ensures { laid result jac.new ≡ rows_into places.now columns.now to jac.old (coincident_of nowhere a b) }
 {
     clear_row(jac, to);
     push(jac, places, columns, to, a, Vec2 { x: 1.0, y: 0.0 });
@@ -50,7 +50,7 @@ fn level(
     axis: usize,
 ) -> usize
     requires { (to.base ≤ 6320) × (to.n ≤ 80) }
-    ensures { laid result jac.new ≡ rowsInto places.now columns.now to jac.old (levelKindOf nowhere a b axis) }
+    ensures { laid result jac.new ≡ rows_into places.now columns.now to jac.old (level_kind_of nowhere a b axis) }
 {
     let d = on_axis(axis, 1.0);
     clear_row(jac, to);
@@ -69,7 +69,7 @@ fn parallel(
     j: Line,
 ) -> usize
     requires { (to.base ≤ 6320) × (to.n ≤ 80) }
-    ensures { laid result jac.new ≡ rowsInto places.now columns.now to jac.old (parallelOf (at_of places.now x.now) i j) }
+    ensures { laid result jac.new ≡ rows_into places.now columns.now to jac.old (parallel_of (at_of places.now x.now) i j) }
 {
     let di = dir(places, x, i);
     let dj = dir(places, x, j);
@@ -95,7 +95,7 @@ fn perpendicular(
     j: Line,
 ) -> usize
     requires { (to.base ≤ 6320) × (to.n ≤ 80) }
-    ensures { laid result jac.new ≡ rowsInto places.now columns.now to jac.old (perpendicularOf (at_of places.now x.now) i j) }
+    ensures { laid result jac.new ≡ rows_into places.now columns.now to jac.old (perpendicular_of (at_of places.now x.now) i j) }
 {
     let di = dir(places, x, i);
     let dj = dir(places, x, j);
@@ -116,7 +116,7 @@ fn collinear(
     j: Line,
 ) -> usize
     requires { (to.base ≤ 6320) × (to.n ≤ 80) }
-    ensures { laid result jac.new ≡ rowsInto places.now columns.now to jac.old (collinearOf (at_of places.now x.now) i j) }
+    ensures { laid result jac.new ≡ rows_into places.now columns.now to jac.old (collinear_of (at_of places.now x.now) i j) }
 {
     let di = dir(places, x, i);
     let dj = dir(places, x, j);
@@ -150,7 +150,7 @@ fn equal(
     j: Line,
 ) -> usize
     requires { (to.base ≤ 6320) × (to.n ≤ 80) }
-    ensures { laid result jac.new ≡ rowsInto places.now columns.now to jac.old (equal_of (at_of places.now x.now) i j) }
+    ensures { laid result jac.new ≡ rows_into places.now columns.now to jac.old (equal_of (at_of places.now x.now) i j) }
 {
     let di = dir(places, x, i);
     let dj = dir(places, x, j);
@@ -172,7 +172,7 @@ fn distance(
     b: PointNo,
 ) -> usize
     requires { (to.base ≤ 6320) × (to.n ≤ 80) }
-    ensures { laid result jac.new ≡ rowsInto places.now columns.now to jac.old (distance_of (at_of places.now x.now) a b zero⁺) }
+    ensures { laid result jac.new ≡ rows_into places.now columns.now to jac.old (distance_of (at_of places.now x.now) a b zero⁺) }
 {
     let d = unit_from(places, x, a, b);
     clear_row(jac, to);
@@ -192,7 +192,7 @@ fn axis_distance(
     side: f64,
 ) -> usize
     requires { (to.base ≤ 6320) × (to.n ≤ 80) }
-    ensures { laid result jac.new ≡ rowsInto places.now columns.now to jac.old (axisDistanceOf nowhere a b axis zero⁺ side) }
+    ensures { laid result jac.new ≡ rows_into places.now columns.now to jac.old (axis_distance_of nowhere a b axis zero⁺ side) }
 {
     let d = on_axis(axis, side);
     clear_row(jac, to);
@@ -203,7 +203,7 @@ fn axis_distance(
 
 fn midpoint(jac: &mut [f64], places: &[u8], columns: &[u8], to: Into, p: PointNo, l: Line) -> usize
     requires { (to.base ≤ 6320) × (to.n ≤ 80) }
-    ensures { laid result jac.new ≡ rowsInto places.now columns.now to jac.old (midpointOf nowhere p l) }
+    ensures { laid result jac.new ≡ rows_into places.now columns.now to jac.old (midpoint_of nowhere p l) }
 {
     let dx = Vec2 { x: 1.0, y: 0.0 };
     let half_x = times_vec(-0.5, dx);
@@ -233,7 +233,7 @@ fn arc_midpoint(
     t: PointNo,
 ) -> usize
     requires { (to.base ≤ 6320) × (to.n ≤ 80) }
-    ensures { laid result jac.new ≡ rowsInto places.now columns.now to jac.old (arcMidpointOf (at_of places.now x.now) p c f t) }
+    ensures { laid result jac.new ≡ rows_into places.now columns.now to jac.old (arc_midpoint_of (at_of places.now x.now) p c f t) }
 {
     // On the circle: as far from the centre as the start..
     let df = unit_from(places, x, c, f);
@@ -264,7 +264,7 @@ fn symmetric(
     l: Line,
 ) -> usize
     requires { (to.base ≤ 6320) × (to.n ≤ 80) }
-    ensures { laid result jac.new ≡ rowsInto places.now columns.now to jac.old (symmetricOf (at_of places.now x.now) p q l) }
+    ensures { laid result jac.new ≡ rows_into places.now columns.now to jac.old (symmetric_of (at_of places.now x.now) p q l) }
 {
     // The middle of the two points on the line..
     let d = dir(places, x, l);
@@ -298,7 +298,7 @@ fn equal_radius(
     f2: PointNo,
 ) -> usize
     requires { (to.base ≤ 6320) × (to.n ≤ 80) }
-    ensures { laid result jac.new ≡ rowsInto places.now columns.now to jac.old (equalRadiusOf (at_of places.now x.now) c1 f1 c2 f2) }
+    ensures { laid result jac.new ≡ rows_into places.now columns.now to jac.old (equal_radius_of (at_of places.now x.now) c1 f1 c2 f2) }
 {
     let d1 = unit_from(places, x, c1, f1);
     let d2 = unit_from(places, x, c2, f2);
@@ -312,7 +312,7 @@ fn equal_radius(
 
 fn length(jac: &mut [f64], places: &[u8], columns: &[u8], to: Into, x: &[f64], l: Line) -> usize
     requires { (to.base ≤ 6320) × (to.n ≤ 80) }
-    ensures { laid result jac.new ≡ rowsInto places.now columns.now to jac.old (length_of (at_of places.now x.now) l zero⁺) }
+    ensures { laid result jac.new ≡ rows_into places.now columns.now to jac.old (length_of (at_of places.now x.now) l zero⁺) }
 {
     let d = dir(places, x, l);
     clear_row(jac, to);
@@ -332,7 +332,7 @@ fn point_line(
     side: f64,
 ) -> usize
     requires { (to.base ≤ 6320) × (to.n ≤ 80) }
-    ensures { laid result jac.new ≡ rowsInto places.now columns.now to jac.old (pointLineOf (at_of places.now x.now) p l zero⁺ side) }
+    ensures { laid result jac.new ≡ rows_into places.now columns.now to jac.old (point_line_of (at_of places.now x.now) p l zero⁺ side) }
 {
     let d = dir(places, x, l);
     let q = offset(places, x, l.from, p);
@@ -355,7 +355,7 @@ fn arc_ends(
     t: PointNo,
 ) -> usize
     requires { (to.base ≤ 6320) × (to.n ≤ 80) }
-    ensures { laid result jac.new ≡ rowsInto places.now columns.now to jac.old (arcEndsOf (at_of places.now x.now) c f t) }
+    ensures { laid result jac.new ≡ rows_into places.now columns.now to jac.old (arc_ends_of (at_of places.now x.now) c f t) }
 {
     let df = unit_from(places, x, c, f);
     let dt = unit_from(places, x, c, t);
@@ -376,7 +376,7 @@ fn radius_kind(
     f: PointNo,
 ) -> usize
     requires { (to.base ≤ 6320) × (to.n ≤ 80) }
-    ensures { laid result jac.new ≡ rowsInto places.now columns.now to jac.old (radiusKindOf (at_of places.now x.now) c f zero⁺) }
+    ensures { laid result jac.new ≡ rows_into places.now columns.now to jac.old (radius_kind_of (at_of places.now x.now) c f zero⁺) }
 {
     let d = unit_from(places, x, c, f);
     clear_row(jac, to);
@@ -397,7 +397,7 @@ fn line_circle(
     side: f64,
 ) -> usize
     requires { (to.base ≤ 6320) × (to.n ≤ 80) }
-    ensures { laid result jac.new ≡ rowsInto places.now columns.now to jac.old (lineCircleOf (at_of places.now x.now) l c rad side) }
+    ensures { laid result jac.new ≡ rows_into places.now columns.now to jac.old (line_circle_of (at_of places.now x.now) l c rad side) }
 {
     let d = dir(places, x, l);
     let q = offset(places, x, l.from, c);
@@ -423,7 +423,7 @@ fn circle_circle(
     contact: Contact,
 ) -> usize
     requires { (to.base ≤ 6320) × (to.n ≤ 80) }
-    ensures { laid result jac.new ≡ rowsInto places.now columns.now to jac.old (circleCircleOf (at_of places.now x.now) c1 r1 c2 r2 contact) }
+    ensures { laid result jac.new ≡ rows_into places.now columns.now to jac.old (circle_circle_of (at_of places.now x.now) c1 r1 c2 r2 contact) }
 {
     let d = unit_from(places, x, c1, c2);
     clear_row(jac, to);
@@ -445,7 +445,7 @@ fn line_arc_at(
     p: PointNo,
 ) -> usize
     requires { (to.base ≤ 6320) × (to.n ≤ 80) }
-    ensures { laid result jac.new ≡ rowsInto places.now columns.now to jac.old (lineArcAtOf (at_of places.now x.now) l c p) }
+    ensures { laid result jac.new ≡ rows_into places.now columns.now to jac.old (line_arc_at_of (at_of places.now x.now) l c p) }
 {
     let d = dir(places, x, l);
     let w = unit_from(places, x, c, p);
@@ -468,7 +468,7 @@ fn arc_arc_at(
     p: PointNo,
 ) -> usize
     requires { (to.base ≤ 6320) × (to.n ≤ 80) }
-    ensures { laid result jac.new ≡ rowsInto places.now columns.now to jac.old (arcArcAtOf (at_of places.now x.now) c1 c2 p) }
+    ensures { laid result jac.new ≡ rows_into places.now columns.now to jac.old (arc_arc_at_of (at_of places.now x.now) c1 c2 p) }
 {
     let w1 = unit_from(places, x, c1, p);
     let w2 = unit_from(places, x, c2, p);
@@ -492,7 +492,7 @@ pub(crate) fn gradients(
     ends: Ends,
 ) -> usize
     requires { (to.base ≤ 6320) × (to.n ≤ 80) }
-    ensures { laid result jac.new ≡ rowsInto places.now columns.now to jac.old (rowsGiven ends (at_of places.now x.now) e) }
+    ensures { laid result jac.new ≡ rows_into places.now columns.now to jac.old (rows_given ends (at_of places.now x.now) e) }
 {
     let i = ends.first;
     let j = ends.second;

@@ -1,7 +1,7 @@
 // The dense row that entries are added into.
 ghost use Rattle.std.specs.Prelude.{◌≡◌, ◌+◌, ◌≤◌, ◌<◌};
 ghost use Rattle.rows.specs.Entries.{entry};
-ghost use Rattle.slopes.specs.Dense.{freeOf, addAt, addEntry, clearedOf};
+ghost use Rattle.slopes.specs.Dense.{free_of, add_at, add_entry, cleared_of};
 ghost use Rattle.slopes.specs.Arms.{next_of};
 
 use plane::Vec2;
@@ -27,7 +27,7 @@ pub(crate) fn next(to: Into) -> Into
 }
 
 fn free(columns: &[u8], c: usize) -> FreeNo
-    ensures { result ≡ freeOf columns.now c }
+    ensures { result ≡ free_of columns.now c }
 {
     if c < columns.len() {
         FreeNo(wide(columns[c]))
@@ -38,7 +38,7 @@ fn free(columns: &[u8], c: usize) -> FreeNo
 
 fn add_at(jac: &mut [f64], to: Into, k: FreeNo, d: f64)
     requires { (to.base ≤ 6400) × (to.n ≤ 80) }
-    ensures { jac.new ≡ addAt to.n to.base k d jac.old }
+    ensures { jac.new ≡ add_at to.n to.base k d jac.old }
 {
     let at = k.0;
     if at < to.n {
@@ -50,7 +50,7 @@ fn add_at(jac: &mut [f64], to: Into, k: FreeNo, d: f64)
 // Adds what a row's gradient is with respect to the two coordinates of a point.
 pub(crate) fn push(jac: &mut [f64], places: &[u8], columns: &[u8], to: Into, p: PointNo, d: Vec2)
     requires { (to.base ≤ 6400) × (to.n ≤ 80) }
-    ensures { jac.new ≡ addEntry places.now columns.now to.n to.base jac.old (entry p d) }
+    ensures { jac.new ≡ add_entry places.now columns.now to.n to.base jac.old (entry p d) }
 {
     let k = local(places, p);
     add_at(jac, to, free(columns, 2 * k), d.x);
@@ -60,7 +60,7 @@ pub(crate) fn push(jac: &mut [f64], places: &[u8], columns: &[u8], to: Into, p: 
 // A row starts from +0.0.
 pub(crate) fn clear_row(jac: &mut [f64], to: Into)
     requires { (to.base ≤ 6400) × (to.n ≤ 80) }
-    ensures { jac.new ≡ clearedOf to.n to.base jac.old }
+    ensures { jac.new ≡ cleared_of to.n to.base jac.old }
 {
     let n = to.n;
     let base = to.base;

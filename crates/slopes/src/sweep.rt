@@ -2,9 +2,9 @@
 ghost use Rattle.std.specs.Prelude.{◌≡◌, ◌+◌, ◌≤◌};
 ghost use Rattle.loops.specs.Turns.{fold};
 ghost use Rattle.rows.specs.Column.{laid};
-ghost use Rattle.rows.specs.Ends.{rowsGiven};
+ghost use Rattle.rows.specs.Ends.{rows_given};
 ghost use Rattle.rows.specs.Located.{at_of};
-ghost use Rattle.slopes.specs.Dense.{nextRow, jacobianOf};
+ghost use Rattle.slopes.specs.Dense.{next_row, jacobian_of};
 
 use crate::arms::gradients;
 use crate::dense::Into;
@@ -23,7 +23,7 @@ fn rows_into(
     x: &[f64],
 ) -> usize
     requires { (row ≤ 78) × (n ≤ 80) }
-    ensures { (laid result j.new ≡ fold (nextRow places.now columns.now n) (laid row j.old) (rowsGiven ends (at_of places.now x.now) e)) × (result ≤ row + 2) }
+    ensures { (laid result j.new ≡ fold (next_row places.now columns.now n) (laid row j.old) (rows_given ends (at_of places.now x.now) e)) × (result ≤ row + 2) }
 {
     let to = Into { n, base: row * n };
     row + gradients(j, places, columns, to, x, e, ends)
@@ -41,7 +41,7 @@ pub fn jacobian(
     x: &[f64],
     j: &mut [f64],
 ) -> usize
-    ensures { laid result j.new ≡ jacobianOf equations lines places.now x.now columns.now n chosen.now j.old }
+    ensures { laid result j.new ≡ jacobian_of equations lines places.now x.now columns.now n chosen.now j.old }
 {
     if (40 < chosen.len()) | (80 < n) {
         return 0;

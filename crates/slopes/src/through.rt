@@ -1,10 +1,10 @@
 // The entries that the arms share.
 ghost use Rattle.std.specs.Prelude.{◌≡◌, ◌≤◌};
 ghost use Rattle.loops.specs.Turns.{fold};
-ghost use Rattle.rows.specs.Kinds.{through1Of, through2Of, radiusEntries};
+ghost use Rattle.rows.specs.Kinds.{through1_of, through2_of, radius_entries};
 ghost use Rattle.rows.specs.Located.{at_of};
 ghost use Rattle.sketch.specs.declared.Rad.{Rad};
-ghost use Rattle.slopes.specs.Dense.{addEntry};
+ghost use Rattle.slopes.specs.Dense.{add_entry};
 
 use crate::dense::{Into, push};
 use plane::{Dir, Vec2};
@@ -27,7 +27,7 @@ pub(crate) fn through1(
     gu: Vec2,
 )
     requires { (to.base ≤ 6400) × (to.n ≤ 80) }
-    ensures { jac.new ≡ fold (addEntry places.now columns.now to.n to.base) jac.old (through1Of l d gu) }
+    ensures { jac.new ≡ fold (add_entry places.now columns.now to.n to.base) jac.old (through1_of l d gu) }
 {
     let gb = plane::across(d.u, gu, d.len);
     push(jac, places, columns, to, l.to, gb);
@@ -36,7 +36,7 @@ pub(crate) fn through1(
 
 pub(crate) fn through2(jac: &mut [f64], places: &[u8], columns: &[u8], to: Into, i: Leg, j: Leg)
     requires { (to.base ≤ 6400) × (to.n ≤ 80) }
-    ensures { jac.new ≡ fold (addEntry places.now columns.now to.n to.base) jac.old (through2Of i.0 i.1 i.2 j.0 j.1 j.2) }
+    ensures { jac.new ≡ fold (add_entry places.now columns.now to.n to.base) jac.old (through2_of i.0 i.1 i.2 j.0 j.1 j.2) }
 {
     through1(jac, places, columns, to, i.0, i.1, i.2);
     through1(jac, places, columns, to, j.0, j.1, j.2);
@@ -54,7 +54,7 @@ fn around(
     scale: f64,
 )
     requires { (to.base ≤ 6400) × (to.n ≤ 80) }
-    ensures { jac.new ≡ fold (addEntry places.now columns.now to.n to.base) jac.old (radiusEntries (at_of places.now x.now) (Rad.Point p) c scale) }
+    ensures { jac.new ≡ fold (add_entry places.now columns.now to.n to.base) jac.old (radius_entries (at_of places.now x.now) (Rad.Point p) c scale) }
 {
     let d = unit_from(places, x, c, p);
     push(jac, places, columns, to, p, times_vec(scale, d.u));
@@ -73,7 +73,7 @@ pub(crate) fn radius(
     scale: f64,
 )
     requires { (to.base ≤ 6400) × (to.n ≤ 80) }
-    ensures { jac.new ≡ fold (addEntry places.now columns.now to.n to.base) jac.old (radiusEntries (at_of places.now x.now) rad c scale) }
+    ensures { jac.new ≡ fold (add_entry places.now columns.now to.n to.base) jac.old (radius_entries (at_of places.now x.now) rad c scale) }
 {
     match rad {
         Rad::Point(p) => around(jac, places, columns, to, x, p, c, scale),

@@ -12,9 +12,9 @@ use Rattle.solver.specs.Promise.{checked}
 
 module _ {A : Type 0} (n : ℕ) (a b : List Float) where
   module _ (v three nine done : A) where
-    pub too_many : 80 < n → v ≡ three → v ≡ checked n a b three nine done
+    pub too-many : 80 < n → v ≡ three → v ≡ checked n a b three nine done
     unfolding checked
-    too_many h e = pick_yes _ _ _ _ (lt-ltb 80 n h) e
+    too-many h e = pick_yes _ _ _ _ (lt-ltb 80 n h) e
 
     pub short-matrix : n ≤ 80 → leb (n * n) (length a) ≡ false → v ≡ nine → v ≡ checked n a b three nine done
     unfolding checked

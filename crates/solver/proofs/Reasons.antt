@@ -7,55 +7,55 @@ use native.Mathlib.Nat.{add-zero, zero-add}
 use native.Mathlib.Omega.{arith}
 use lib.Ieee.{Float}
 use lib.Ieee.Scale.{finite}
-use Rattle.loops.specs.Turns.{Try, go, stop, after, tried, tries, tryTo, every}
-use Rattle.loops.proofs.Turning.{tryTo-all}
-use Rattle.solver.specs.Inside.{columnsIn}
-use Rattle.solver.specs.Reasons.{Reasoned, some, noPivot, notFinite, onSome, optionOf, orNoPivot, columnsFrom, ifFinite, reasonedOf, Forgotten, matrixOf, ComesTo, Pivots, Lacks, FirstColumn, NotFiniteExactly, ColumnNamed}
-use Rattle.solver.specs.Steps.{Sys, sys, scale_of, singular, columnOf, eliminatedOf, backOf, allFinite, solutionOf}
+use Rattle.loops.specs.Turns.{Try, go, stop, after, tried, tries, try_to, every}
+use Rattle.loops.proofs.Turning.{try_to-all}
+use Rattle.solver.specs.Inside.{columns_in}
+use Rattle.solver.specs.Reasons.{Reasoned, some, no_pivot, not_finite, on_some, option_of, or_no_pivot, columns_from, if_finite, reasoned_of, Forgotten, matrix_of, ComesTo, Pivots, Lacks, FirstColumn, NotFiniteExactly, ColumnNamed}
+use Rattle.solver.specs.Steps.{Sys, sys, scale_of, singular, column_of, eliminated_of, back_of, all_finite, solution_of}
 
-pub columns-some : (c : ℕ) (s : Sys) → c ≤ 0 → columnsIn c s ≡ some s
+pub columns-some : (c : ℕ) (s : Sys) → c ≤ 0 → columns_in c s ≡ some s
 columns-some zero s h = refl
 columns-some (suc c) s h = absurd (omega (arith, h))
 
-pub columns-none : (c : ℕ) (s : Sys) → 0 < c → columnsIn c s ≡ noPivot c
+pub columns-none : (c : ℕ) (s : Sys) → 0 < c → columns_in c s ≡ no_pivot c
 columns-none zero s h = absurd (omega (arith, h))
 columns-none (suc c) s h = refl
 
 -- ---- a turn, a stop and the end, as the code goes through them
 
 module _ (f : ℕ → Sys → Try Sys) where
-  from_next : (k n col : ℕ) (s s' : Sys) → n ≡ suc k → f col s ≡ go s' → columnsFrom f n col s ≡ columnsFrom f k (col + 1) s'
-  unfolding columnsFrom
+  from_next : (k n col : ℕ) (s s' : Sys) → n ≡ suc k → f col s ≡ go s' → columns_from f n col s ≡ columns_from f k (col + 1) s'
+  unfolding columns_from
   from_next k n col s s' e g = rw (e, g)
 
-  from-stop : (k n col : ℕ) (s : Sys) → n ≡ suc k → f col s ≡ stop → columnsFrom f n col s ≡ noPivot (col + 1)
-  unfolding columnsFrom
+  from-stop : (k n col : ℕ) (s : Sys) → n ≡ suc k → f col s ≡ stop → columns_from f n col s ≡ no_pivot (col + 1)
+  unfolding columns_from
   from-stop k n col s e g = rw (e, g)
 
-  from-done : (n col : ℕ) (s : Sys) → n ≡ 0 → columnsFrom f n col s ≡ some s
-  unfolding columnsFrom
+  from-done : (n col : ℕ) (s : Sys) → n ≡ 0 → columns_from f n col s ≡ some s
+  unfolding columns_from
   from-done n col s e = rw e
 
-  pub columns-next : (n col : ℕ) (b : Bool) (s s' : Sys) (R : Reasoned Sys) → col < n → tried b s' ≡ f col s → b ≡ true → columnsFrom f (n - col) col s ≡ R
-      → columnsFrom f (n - (col + 1)) (col + 1) s' ≡ R
+  pub columns-next : (n col : ℕ) (b : Bool) (s s' : Sys) (R : Reasoned Sys) → col < n → tried b s' ≡ f col s → b ≡ true → columns_from f (n - col) col s ≡ R
+      → columns_from f (n - (col + 1)) (col + 1) s' ≡ R
   columns-next n col b s s' R h e t r = sym (from_next (n - (col + 1)) (n - col) col s s' (omega arith) (sym (rw t at e))) ∙ r
 
-  pub columns-stop : (n col : ℕ) (b : Bool) (s s' t : Sys) (R : Reasoned Sys) → col < n → tried b s' ≡ f col s → b ≡ false → columnsFrom f (n - col) col s ≡ R
-      → columnsIn (col + 1) t ≡ R
+  pub columns-stop : (n col : ℕ) (b : Bool) (s s' t : Sys) (R : Reasoned Sys) → col < n → tried b s' ≡ f col s → b ≡ false → columns_from f (n - col) col s ≡ R
+      → columns_in (col + 1) t ≡ R
   columns-stop n col b s s' t R h e q r = columns-none (col + 1) t (omega arith) ∙ sym (from-stop (n - (col + 1)) (n - col) col s (omega arith) (sym (rw q at e))) ∙ r
 
-  pub columns-done : (n col : ℕ) (s : Sys) (R : Reasoned Sys) → n ≤ col → columnsFrom f (n - col) col s ≡ R → columnsIn 0 s ≡ R
+  pub columns-done : (n col : ℕ) (s : Sys) (R : Reasoned Sys) → n ≤ col → columns_from f (n - col) col s ≡ R → columns_in 0 s ≡ R
   columns-done n col s R h r = sym (from-done (n - col) col s (omega arith)) ∙ r
 
   -- ---- the reason forgotten
 
-  columns-forgotten : (k col : ℕ) (s : Sys) → optionOf (columnsFrom f k col s) ≡ tries k col f s
-  unfolding columnsFrom tries
+  columns-forgotten : (k col : ℕ) (s : Sys) → option_of (columns_from f k col s) ≡ tries k col f s
+  unfolding columns_from tries
   columns-forgotten zero col s = refl
   columns-forgotten (suc k) col s = by (f col s) (columns-forgotten k (col + 1))
     where
-      by : (t : Try Sys) → ((u : Sys) → optionOf (columnsFrom f k (col + 1) u) ≡ tries k (col + 1) f u)
-          → optionOf (orNoPivot t col (columnsFrom f k (col + 1))) ≡ after t (tries k (col + 1) f)
+      by : (t : Try Sys) → ((u : Sys) → option_of (columns_from f k (col + 1) u) ≡ tries k (col + 1) f u)
+          → option_of (or_no_pivot t col (columns_from f k (col + 1))) ≡ after t (tries k (col + 1) f)
       by (go u) rest = rest u
       by stop rest = refl
 
@@ -69,24 +69,24 @@ module _ (f : ℕ → Sys → Try Sys) where
   unfolding Stops tries
   stops-later j col s v e (u, t, h) = let i : (col + 1) + j ≡ col + suc j = omega arith in (u, rw e t, rw i at h)
 
-  named : (k col : ℕ) (s : Sys) (c : ℕ) → columnsFrom f k col s ≡ noPivot c → (j : ℕ) × (j < k) × (c ≡ col + j + 1) × Stops j col s
-  unfolding columnsFrom Stops tries
+  named : (k col : ℕ) (s : Sys) (c : ℕ) → columns_from f k col s ≡ no_pivot c → (j : ℕ) × (j < k) × (c ≡ col + j + 1) × Stops j col s
+  unfolding columns_from Stops tries
   named zero col s c e = absurd (true≢false cc)
   named (suc k) col s c e = by (f col s) refl (named k (col + 1)) e
     where
-      by : (t : Try Sys) → f col s ≡ t → ((v : Sys) (c : ℕ) → columnsFrom f k (col + 1) v ≡ noPivot c → (j : ℕ) × (j < k) × (c ≡ (col + 1) + j + 1) × Stops j (col + 1) v)
-          → orNoPivot t col (columnsFrom f k (col + 1)) ≡ noPivot c → (j : ℕ) × (j < suc k) × (c ≡ col + j + 1) × Stops j col s
+      by : (t : Try Sys) → f col s ≡ t → ((v : Sys) (c : ℕ) → columns_from f k (col + 1) v ≡ no_pivot c → (j : ℕ) × (j < k) × (c ≡ (col + 1) + j + 1) × Stops j (col + 1) v)
+          → or_no_pivot t col (columns_from f k (col + 1)) ≡ no_pivot c → (j : ℕ) × (j < suc k) × (c ≡ col + j + 1) × Stops j col s
       by (go v) q rest e = let (j, h, i, st) = rest v c e in (suc j, omega arith, omega arith, stops-later j col s v q st)
       by stop q rest e = let i : c ≡ col + 1 = cc in (0, omega arith, omega arith, (s, refl, rw add-zero q))
 
-  stopped : (j k col : ℕ) (s : Sys) → j < k → Stops j col s → columnsFrom f k col s ≡ noPivot (col + j + 1)
-  unfolding columnsFrom Stops tries
+  stopped : (j k col : ℕ) (s : Sys) → j < k → Stops j col s → columns_from f k col s ≡ no_pivot (col + j + 1)
+  unfolding columns_from Stops tries
   stopped j zero col s h st = absurd (omega (arith, h))
   stopped zero (suc k) col s h (u, t, q) = let e : s ≡ u = cc in rw (add-zero, rw (add-zero, ← e) at q)
   stopped (suc j) (suc k) col s h (u, t, q) = by (f col s) t (stopped j k (col + 1))
     where
-      by : (r : Try Sys) → after r (tries j (col + 1) f) ≡ go u → ((v : Sys) → j < k → Stops j (col + 1) v → columnsFrom f k (col + 1) v ≡ noPivot ((col + 1) + j + 1))
-          → orNoPivot r col (columnsFrom f k (col + 1)) ≡ noPivot (col + suc j + 1)
+      by : (r : Try Sys) → after r (tries j (col + 1) f) ≡ go u → ((v : Sys) → j < k → Stops j (col + 1) v → columns_from f k (col + 1) v ≡ no_pivot ((col + 1) + j + 1))
+          → or_no_pivot r col (columns_from f k (col + 1)) ≡ no_pivot (col + suc j + 1)
       by (go v) t rest = let i : (col + 1) + j ≡ col + suc j = omega arith in rw i at (rest v (omega arith) (u, t, rw (← i) at q))
       by stop t rest = absurd (true≢false cc)
 
@@ -106,86 +106,86 @@ module _ (f : ℕ → Sys → Try Sys) where
           (x, w, rw e p, rw i at q)
       by stop e t rest k h = absurd (true≢false cc)
 
-finite-forgotten : (y : List Float) → optionOf (ifFinite y) ≡ allFinite y
-unfolding ifFinite allFinite
+finite-forgotten : (y : List Float) → option_of (if_finite y) ≡ all_finite y
+unfolding if_finite all_finite
 finite-forgotten y = by (every finite y)
   where
-    by : (b : Bool) → optionOf (cond b (some y) notFinite) ≡ cond b (go y) stop
+    by : (b : Bool) → option_of (cond b (some y) not_finite) ≡ cond b (go y) stop
     by true = refl
     by false = refl
 
-some-forgotten : (n : ℕ) (x : Reasoned Sys) → optionOf (onSome x (λ s. ifFinite (backOf n s))) ≡ after (optionOf x) (λ s. allFinite (backOf n s))
-some-forgotten n (some s) = finite-forgotten (backOf n s)
-some-forgotten n (noPivot c) = refl
-some-forgotten n notFinite = refl
+some-forgotten : (n : ℕ) (x : Reasoned Sys) → option_of (on_some x (λ s. if_finite (back_of n s))) ≡ after (option_of x) (λ s. all_finite (back_of n s))
+some-forgotten n (some s) = finite-forgotten (back_of n s)
+some-forgotten n (no_pivot c) = refl
+some-forgotten n not_finite = refl
 
 pub forgotten : Forgotten
-unfolding reasonedOf solutionOf eliminatedOf
+unfolding reasoned_of solution_of eliminated_of
 forgotten n a b =
-    some-forgotten n (columnsFrom (columnOf n (scale_of a)) n 0 (sys a b))
-    ∙ ap (λ t. after t (λ s. allFinite (backOf n s))) (columns-forgotten (columnOf n (scale_of a)) n 0 (sys a b) ∙ sym (tryTo-all (columnOf n (scale_of a)) n (sys a b)))
+    some-forgotten n (columns_from (column_of n (scale_of a)) n 0 (sys a b))
+    ∙ ap (λ t. after t (λ s. all_finite (back_of n s))) (columns-forgotten (column_of n (scale_of a)) n 0 (sys a b) ∙ sym (try_to-all (column_of n (scale_of a)) n (sys a b)))
 
 -- ---- a column, and its pivot
 
 module _ (n col : ℕ) (scale : Float) where
-  is-singular : (s : Sys) → columnOf n scale col s ≡ stop → singular n scale col (matrixOf s) ≡ true
-  unfolding columnOf
+  is-singular : (s : Sys) → column_of n scale col s ≡ stop → singular n scale col (matrix_of s) ≡ true
+  unfolding column_of
   is-singular (sys a b) e = by (singular n scale col a) _ e
     where
       by : (t : Bool) (w : Sys) → cond t stop (go w) ≡ stop → t ≡ true
       by true w e = refl
       by false w e = cc
 
-  has-pivot : (s w : Sys) → columnOf n scale col s ≡ go w → singular n scale col (matrixOf s) ≡ false
-  unfolding columnOf
+  has-pivot : (s w : Sys) → column_of n scale col s ≡ go w → singular n scale col (matrix_of s) ≡ false
+  unfolding column_of
   has-pivot (sys a b) w e = by (singular n scale col a) _ e
     where
       by : (t : Bool) (v : Sys) → cond t stop (go v) ≡ go w → t ≡ false
       by true v e = cc
       by false v e = refl
 
-  stops-there : (s : Sys) → singular n scale col (matrixOf s) ≡ true → columnOf n scale col s ≡ stop
-  unfolding columnOf
+  stops-there : (s : Sys) → singular n scale col (matrix_of s) ≡ true → column_of n scale col s ≡ stop
+  unfolding column_of
   stops-there (sys a b) e = rw e
 
 module _ (n : ℕ) (a b : List Float) where
   abbrev turn : ℕ → Sys → Try Sys
-  turn = columnOf n (scale_of a)
+  turn = column_of n (scale_of a)
 
   -- what came of the columns is what is answered, unless all had their pivot
-  of-columns : (c : ℕ) (x : Reasoned Sys) → onSome x (λ s. ifFinite (backOf n s)) ≡ noPivot c → x ≡ noPivot c
-  unfolding ifFinite
-  of-columns c (some s) e = by (every finite (backOf n s)) e
+  of-columns : (c : ℕ) (x : Reasoned Sys) → on_some x (λ s. if_finite (back_of n s)) ≡ no_pivot c → x ≡ no_pivot c
+  unfolding if_finite
+  of-columns c (some s) e = by (every finite (back_of n s)) e
     where
-      by : (t : Bool) → cond t (some (backOf n s)) notFinite ≡ noPivot c → some s ≡ noPivot c
+      by : (t : Bool) → cond t (some (back_of n s)) not_finite ≡ no_pivot c → some s ≡ no_pivot c
       by true e = cc
       by false e = cc
-  of-columns c (noPivot d) e = cc
-  of-columns c notFinite e = cc
+  of-columns c (no_pivot d) e = cc
+  of-columns c not_finite e = cc
 
-  pub named-first : (c : ℕ) → reasonedOf n a b ≡ noPivot c → (j : ℕ) × (j < n) × (c ≡ j + 1) × Lacks n a b j × ((k : ℕ) → k < j → Pivots n a b k)
-  unfolding reasonedOf Stops
+  pub named-first : (c : ℕ) → reasoned_of n a b ≡ no_pivot c → (j : ℕ) × (j < n) × (c ≡ j + 1) × Lacks n a b j × ((k : ℕ) → k < j → Pivots n a b k)
+  unfolding reasoned_of Stops
   named-first c e =
       let (j, h, i, (u, t, q)) = named turn n 0 (sys a b) c (of-columns c _ e) in (
         j,
         h,
         omega (arith, i),
-        record { at = u; comes = tryTo-all turn j (sys a b) ∙ t; no-pivot = is-singular n j (scale_of a) u (rw zero-add at q) },
+        record { at = u; comes = try_to-all turn j (sys a b) ∙ t; no-pivot = is-singular n j (scale_of a) u (rw zero-add at q) },
         λ k l.
             let (v, w, p, r) = passed turn j 0 (sys a b) u t k l in
-            record { at = v; comes = tryTo-all turn k (sys a b) ∙ p; pivot = has-pivot n k (scale_of a) v w (rw zero-add at r) },
+            record { at = v; comes = try_to-all turn k (sys a b) ∙ p; pivot = has-pivot n k (scale_of a) v w (rw zero-add at r) },
       )
 
-  lacking : (col : ℕ) → col < n → Lacks n a b col → reasonedOf n a b ≡ noPivot (col + 1)
-  unfolding reasonedOf Stops
+  lacking : (col : ℕ) → col < n → Lacks n a b col → reasoned_of n a b ≡ no_pivot (col + 1)
+  unfolding reasoned_of Stops
   lacking col h l =
       let q : turn col l.at ≡ stop = stops-there n col (scale_of a) l.at l.no-pivot in
-      rw zero-add at (ap (λ x. onSome x (λ s. ifFinite (backOf n s))) (stopped turn col n 0 (sys a b) h (l.at, sym (tryTo-all turn col (sys a b)) ∙ l.comes, rw zero-add q)))
+      rw zero-add at (ap (λ x. on_some x (λ s. if_finite (back_of n s))) (stopped turn col n 0 (sys a b) h (l.at, sym (try_to-all turn col (sys a b)) ∙ l.comes, rw zero-add q)))
 
 pub first-column : FirstColumn
 first-column n a b col = (forth, λ (h, l, r). lacking n a b col h l)
   where
-    forth : reasonedOf n a b ≡ noPivot (col + 1) → (col < n) × Lacks n a b col × ((k : ℕ) → k < col → Pivots n a b k)
+    forth : reasoned_of n a b ≡ no_pivot (col + 1) → (col < n) × Lacks n a b col × ((k : ℕ) → k < col → Pivots n a b k)
     forth e =
         let (j, h, i, l, r) = named-first n a b (col + 1) e in
         let same : j ≡ col = omega arith in
@@ -196,43 +196,43 @@ column-named n a b c e = let (j, h, i, l, r) = named-first n a b c e in (omega a
 
 -- ---- a result that is not finite
 
-never : (f : ℕ → Sys → Try Sys) (k col : ℕ) (s : Sys) → columnsFrom f k col s ≡ notFinite → ⊥
-unfolding columnsFrom
+never : (f : ℕ → Sys → Try Sys) (k col : ℕ) (s : Sys) → columns_from f k col s ≡ not_finite → ⊥
+unfolding columns_from
 never f zero col s e = absurd (true≢false cc)
 never f (suc k) col s e = by (f col s) e (never f k (col + 1))
   where
-    by : (t : Try Sys) → orNoPivot t col (columnsFrom f k (col + 1)) ≡ notFinite → ((u : Sys) → columnsFrom f k (col + 1) u ≡ notFinite → ⊥) → ⊥
+    by : (t : Try Sys) → or_no_pivot t col (columns_from f k (col + 1)) ≡ not_finite → ((u : Sys) → columns_from f k (col + 1) u ≡ not_finite → ⊥) → ⊥
     by (go u) e rest = rest u e
     by stop e rest = absurd (true≢false cc)
 
 module _ (n : ℕ) where
-  unfinished : (x : Reasoned Sys) → (x ≡ notFinite → ⊥) → onSome x (λ s. ifFinite (backOf n s)) ≡ notFinite → (s : Sys) × (optionOf x ≡ go s) × (every finite (backOf n s) ≡ false)
-  unfolding ifFinite
-  unfinished (some s) h e = (s, refl, by (every finite (backOf n s)) e)
+  unfinished : (x : Reasoned Sys) → (x ≡ not_finite → ⊥) → on_some x (λ s. if_finite (back_of n s)) ≡ not_finite → (s : Sys) × (option_of x ≡ go s) × (every finite (back_of n s) ≡ false)
+  unfolding if_finite
+  unfinished (some s) h e = (s, refl, by (every finite (back_of n s)) e)
     where
-      by : (t : Bool) → cond t (some (backOf n s)) notFinite ≡ notFinite → t ≡ false
+      by : (t : Bool) → cond t (some (back_of n s)) not_finite ≡ not_finite → t ≡ false
       by true e = cc
       by false e = refl
-  unfinished (noPivot c) h e = absurd (true≢false cc)
-  unfinished notFinite h e = absurd (h refl)
+  unfinished (no_pivot c) h e = absurd (true≢false cc)
+  unfinished not_finite h e = absurd (h refl)
 
-  finished : (x : Reasoned Sys) (s : Sys) → optionOf x ≡ go s → every finite (backOf n s) ≡ false → onSome x (λ s. ifFinite (backOf n s)) ≡ notFinite
-  unfolding ifFinite
+  finished : (x : Reasoned Sys) (s : Sys) → option_of x ≡ go s → every finite (back_of n s) ≡ false → on_some x (λ s. if_finite (back_of n s)) ≡ not_finite
+  unfolding if_finite
   finished (some u) s e h = let i : u ≡ s = cc in rw (i, h)
-  finished (noPivot c) s e h = cc
-  finished notFinite s e h = refl
+  finished (no_pivot c) s e h = cc
+  finished not_finite s e h = refl
 
 pub not-finite-exactly : NotFiniteExactly
-unfolding reasonedOf
+unfolding reasoned_of
 not-finite-exactly n a b = (forth, back)
   where
-    came : optionOf (columnsFrom (columnOf n (scale_of a)) n 0 (sys a b)) ≡ tryTo n 0 (columnOf n (scale_of a)) (sys a b)
-    came = columns-forgotten (columnOf n (scale_of a)) n 0 (sys a b) ∙ sym (tryTo-all (columnOf n (scale_of a)) n (sys a b))
+    came : option_of (columns_from (column_of n (scale_of a)) n 0 (sys a b)) ≡ try_to n 0 (column_of n (scale_of a)) (sys a b)
+    came = columns-forgotten (column_of n (scale_of a)) n 0 (sys a b) ∙ sym (try_to-all (column_of n (scale_of a)) n (sys a b))
 
-    forth : reasonedOf n a b ≡ notFinite → (s : Sys) × ComesTo n a b n s × (every finite (backOf n s) ≡ false)
+    forth : reasoned_of n a b ≡ not_finite → (s : Sys) × ComesTo n a b n s × (every finite (back_of n s) ≡ false)
     forth e =
-        let (s, t, h) = unfinished n (columnsFrom (columnOf n (scale_of a)) n 0 (sys a b)) (never (columnOf n (scale_of a)) n 0 (sys a b)) e in
+        let (s, t, h) = unfinished n (columns_from (column_of n (scale_of a)) n 0 (sys a b)) (never (column_of n (scale_of a)) n 0 (sys a b)) e in
         (s, sym came ∙ t, h)
 
-    back : (s : Sys) × ComesTo n a b n s × (every finite (backOf n s) ≡ false) → reasonedOf n a b ≡ notFinite
-    back (s, t, h) = finished n (columnsFrom (columnOf n (scale_of a)) n 0 (sys a b)) s (came ∙ t) h
+    back : (s : Sys) × ComesTo n a b n s × (every finite (back_of n s) ≡ false) → reasoned_of n a b ≡ not_finite
+    back (s, t, h) = finished n (columns_from (column_of n (scale_of a)) n 0 (sys a b)) s (came ∙ t) h

@@ -3,8 +3,8 @@ use Rattle.std.specs.Prelude.{List, Float}
 use Rattle.floats.specs.Ops.{◌⊕◌, ◌⊗◌, zero⁻}
 use Rattle.loops.specs.Turns.{fold}
 
-unfoldable pub addSquare : Float → Float → Float
-addSquare s a = s ⊕ a ⊗ a
+unfoldable pub add_square : Float → Float → Float
+add_square s a = s ⊕ a ⊗ a
 
-unfoldable pub norm2Of : List Float → Float
-norm2Of v = fold addSquare zero⁻ v
+unfoldable pub norm2_of : List Float → Float
+norm2_of v = fold add_square zero⁻ v

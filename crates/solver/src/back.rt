@@ -2,7 +2,7 @@
 ghost use Rattle.std.specs.Prelude.{◌≡◌, ◌+◌, ◌*◌, ◌≤◌, ◌<◌, length};
 ghost use Rattle.std.specs.Float.Ieee.Scale.{finite};
 ghost use Rattle.loops.specs.Turns.{every};
-ghost use Rattle.solver.specs.Steps.{sys, sum_of, backOf};
+ghost use Rattle.solver.specs.Steps.{sys, sum_of, back_of};
 
 // What the answers after row `r` weigh in it.
 fn weight(a: &[f64], y: &[f64], n: usize, r: usize) -> f64
@@ -19,7 +19,7 @@ fn weight(a: &[f64], y: &[f64], n: usize, r: usize) -> f64
 // A place of `b` from row `r` on holds the answer, one before it still the right side.
 pub(crate) fn substitute(a: &[f64], b: &mut [f64], n: usize)
     requires { (n * n ≤ length a.now) × (length b.old ≡ n) }
-    ensures { b.new ≡ backOf n (sys a.now b.old) }
+    ensures { b.new ≡ back_of n (sys a.now b.old) }
 {
     let mut r = n;
     while 0 < r {

@@ -1,12 +1,12 @@
 // The rows below the pivot, each less its multiple of the pivot's row.
 ghost use Rattle.std.specs.Prelude.{◌≡◌, ◌+◌, ◌*◌, ◌≤◌, ◌<◌, length};
 ghost use Rattle.loops.specs.Turns.{up_to};
-ghost use Rattle.solver.specs.Steps.{sys, lessPast, lessAt, lessRow, row_of, belowOf};
+ghost use Rattle.solver.specs.Steps.{sys, less_past, less_at, less_row, row_of, below_of};
 
 // The places `off` past the first `len` ones, each less `f` times its fellow. `s` starts at the pivot column of the pivot's row.
 fn row_update(s: &mut [f64], len: usize, off: usize, f: f64)
     requires { off + len ≤ length s.old }
-    ensures { s.new ≡ up_to len 0 (lessPast off f) s.old }
+    ensures { s.new ≡ up_to len 0 (less_past off f) s.old }
 {
     for c in 0..len {
         s[off + c] = s[off + c] - f * s[c];
@@ -16,7 +16,7 @@ fn row_update(s: &mut [f64], len: usize, off: usize, f: f64)
 // Row `r` less `f` times row `col`, on the part of the matrix from the pivot column of row `col` on.
 fn less_part(a: &mut [f64], n: usize, col: usize, r: usize, f: f64)
     requires { ((col < r) × (r < n)) × (n * n ≤ length a.old) }
-    ensures { a.new ≡ up_to n col (lessAt n col r f) a.old }
+    ensures { a.new ≡ up_to n col (less_at n col r f) a.old }
 {
     let start = col * n + col;
     row_update(&mut a[start..], n - col, (r - col) * n, f);
@@ -25,7 +25,7 @@ fn less_part(a: &mut [f64], n: usize, col: usize, r: usize, f: f64)
 // Row `r` less `f` times row `col`, and the right side with it.
 fn less_row(a: &mut [f64], b: &mut [f64], n: usize, col: usize, r: usize, f: f64)
     requires { ((col < r) × (r < n)) × ((n * n ≤ length a.old) × (n ≤ length b.old)) }
-    ensures { sys a.new b.new ≡ lessRow n col r f (sys a.old b.old) }
+    ensures { sys a.new b.new ≡ less_row n col r f (sys a.old b.old) }
 {
     if f == 0.0 {
         return;
@@ -45,7 +45,7 @@ fn clear_row(a: &mut [f64], b: &mut [f64], n: usize, col: usize, p: f64, r: usiz
 // Clears column `col` in every row after `col`.
 pub(crate) fn clear_below(a: &mut [f64], b: &mut [f64], n: usize, col: usize)
     requires { (col < n) × ((n * n ≤ length a.old) × (n ≤ length b.old)) }
-    ensures { sys a.new b.new ≡ belowOf n col (sys a.old b.old) }
+    ensures { sys a.new b.new ≡ below_of n col (sys a.old b.old) }
 {
     let p = a[col * n + col];
     for r in col + 1..n {

@@ -1,7 +1,10 @@
 // Calls on a bare matrix that lies in a lent slice row after row, and on bare slices, after the Rust's solver.rs.
+
+#![tactic(auto)]
+
 ghost use Rattle.std.specs.Prelude.{◌≡◌, ◌*◌, length};
-ghost use Rattle.solver.specs.Sums.{norm2Of};
-ghost use Rattle.solver.specs.Promise.{Finds, Solves, isSome};
+ghost use Rattle.solver.specs.Sums.{norm2_of};
+ghost use Rattle.solver.specs.Promise.{Finds, Solves, is_some};
 
 mod back;
 mod below;
@@ -9,7 +12,7 @@ mod pivot;
 
 // The sum of the squares.
 pub fn norm2(v: &[f64]) -> f64
-    ensures { result ≡ norm2Of v.now }
+    ensures { result ≡ norm2_of v.now }
 {
     let mut s = -0.0;
     for i in 0..v.len() {
@@ -58,7 +61,7 @@ pub fn solve_dense(a: &mut [f64], b: &mut [f64], n: usize) -> Elimination
 
 // Whether there is an answer.
 pub fn is_some(e: Elimination) -> bool
-    ensures { result ≡ isSome e }
+    ensures { result ≡ is_some e }
 {
     match e {
         Elimination::Some => true,

@@ -2,9 +2,9 @@
 ghost use Rattle.std.specs.Prelude.{◌≡◌, ◌+◌, ◌*◌, ◌≤◌, ◌<◌, false, length};
 ghost use Rattle.std.specs.Float.Ieee.{is_nan};
 ghost use Rattle.loops.specs.Turns.{tried};
-ghost use Rattle.solver.specs.Inside.{Sized, columnsIn};
-ghost use Rattle.solver.specs.Lesser.{partSwapped, lesserSwapped, lesserColumn, lesserEliminated};
-ghost use Rattle.solver.specs.Steps.{sys, largerOf, scale_of, largerRow, pivotOf};
+ghost use Rattle.solver.specs.Inside.{Sized, columns_in};
+ghost use Rattle.solver.specs.Lesser.{part_swapped, lesser_swapped, lesser_column, lesser_eliminated};
+ghost use Rattle.solver.specs.Steps.{sys, larger_of, scale_of, larger_row, pivot_of};
 
 use crate::below;
 
@@ -21,7 +21,7 @@ fn scale(a: &[f64]) -> f64
 
 fn larger(m: f64, v: f64) -> f64
     requires { is_nan m ≡ false }
-    ensures { (result ≡ largerOf m v) × (is_nan result ≡ false) }
+    ensures { (result ≡ larger_of m v) × (is_nan result ≡ false) }
 {
     let a = floats::abs(v);
     if m < a { a } else { m }
@@ -30,7 +30,7 @@ fn larger(m: f64, v: f64) -> f64
 // The row from `col` on with the largest magnitude in column `col`, the lowest one on ties.
 fn pivot_row(a: &[f64], n: usize, col: usize) -> usize
     requires { (col < n) × (n * n ≤ length a.now) }
-    ensures { (result ≡ pivotOf n col a.now) × (result < n) }
+    ensures { (result ≡ pivot_of n col a.now) × (result < n) }
 {
     let mut best = Candidate {
         row: col,
@@ -51,7 +51,7 @@ struct Candidate {
 
 fn larger_row(a: &[f64], n: usize, col: usize, q: usize, p: Candidate) -> Candidate
     requires { ((q < n) × ((col < n) × (n * n ≤ length a.now))) × Sized n col a.now p }
-    ensures { (result.row ≡ largerRow n col a.now q p.row) × Sized n col a.now result }
+    ensures { (result.row ≡ larger_row n col a.now q p.row) × Sized n col a.now result }
 {
     let s = floats::magnitude(a[q * n + col]);
     if p.size < s {
@@ -65,7 +65,7 @@ fn larger_row(a: &[f64], n: usize, col: usize, q: usize, p: Candidate) -> Candid
 // every turn.
 fn swap_rows(a: &mut [f64], n: usize, col: usize, piv: usize)
     requires { ((piv < n) × (col < n)) × (n * n ≤ length a.old) }
-    ensures { a.new ≡ partSwapped n col piv a.old }
+    ensures { a.new ≡ part_swapped n col piv a.old }
 {
     for c in col..n {
         let p = piv * n + c;
@@ -79,7 +79,7 @@ fn swap_rows(a: &mut [f64], n: usize, col: usize, piv: usize)
 // Brings the pivot's row to `col`, in the matrix and in the right side.
 fn swap_in(a: &mut [f64], b: &mut [f64], n: usize, col: usize, piv: usize)
     requires { ((piv < n) × (col < n)) × ((n * n ≤ length a.old) × (n ≤ length b.old)) }
-    ensures { sys a.new b.new ≡ lesserSwapped n col piv (sys a.old b.old) }
+    ensures { sys a.new b.new ≡ lesser_swapped n col piv (sys a.old b.old) }
 {
     if piv == col {
         return;
@@ -91,7 +91,7 @@ fn swap_in(a: &mut [f64], b: &mut [f64], n: usize, col: usize, piv: usize)
 // Clears column `col` below its pivot; false where there is no pivot, and then nothing is said of what is left.
 fn column(a: &mut [f64], b: &mut [f64], n: usize, scale: f64, col: usize) -> bool
     requires { (col < n) × ((n * n ≤ length a.old) × (n ≤ length b.old)) }
-    ensures { tried result (sys a.new b.new) ≡ lesserColumn n scale col (sys a.old b.old) }
+    ensures { tried result (sys a.new b.new) ≡ lesser_column n scale col (sys a.old b.old) }
 {
     let piv = pivot_row(a, n, col);
     if floats::abs(a[piv * n + col]) <= scale * 1e-15 {
@@ -105,7 +105,7 @@ fn column(a: &mut [f64], b: &mut [f64], n: usize, scale: f64, col: usize) -> boo
 // Brings the matrix to upper triangular form: 0, or the column, counted from 1, that has no pivot.
 pub(crate) fn eliminate(a: &mut [f64], b: &mut [f64], n: usize) -> usize
     requires { (n * n ≤ length a.old) × (n ≤ length b.old) }
-    ensures { columnsIn result (sys a.new b.new) ≡ lesserEliminated n (sys a.old b.old) }
+    ensures { columns_in result (sys a.new b.new) ≡ lesser_eliminated n (sys a.old b.old) }
 {
     let s = scale(a);
     for col in 0..n {

@@ -7,7 +7,7 @@ use native.Mathlib.Omega.{arith}
 use borrow.Author.Tests.{lt-ltb, le-ltb}
 use lib.Dec.{ltb}
 use lib.ListN.{length, length-append}
-use Rattle.spelling.specs.Printed.{decimal, hexDigit, hexadecimal}
+use Rattle.spelling.specs.Printed.{decimal, hex_digit, hexadecimal}
 
 pub decimal-one : (k n : ℕ) → n < 10 → decimal k n ≡ (48 + n) ∷ []
 unfolding decimal
@@ -35,7 +35,7 @@ decimal-short (suc k) n = go (ltb n 10) (decimal-short k (n / 10))
     go true h = omega arith
     go false h = simp length-append (omega arith)
 
-pub hexadecimal-last : (k b : ℕ) → hexadecimal (suc k) b ≡ hexadecimal k (b / 16) ++ hexDigit (b % 16) ∷ []
+pub hexadecimal-last : (k b : ℕ) → hexadecimal (suc k) b ≡ hexadecimal k (b / 16) ++ hex_digit (b % 16) ∷ []
 unfolding hexadecimal
 hexadecimal-last k b = refl
 

@@ -13,7 +13,7 @@ use mathlib.Core.List.{List, [], ◌∷◌, ◌++◌, append_assoc}
 use mathlib.Core.Path.{◌≡◌, refl, sym, ap, ap₂, subst, ◌∙◌}
 use lib.Dec.{eqb}
 use Rattle.loops.specs.Turns.{fold}
-use Rattle.spelling.specs.Places.{eatOf}
+use Rattle.spelling.specs.Places.{eat_of}
 use Rattle.spelling.specs.declared.Cursor.{Cursor}
 use Rattle.spelling.proofs.Steps.{Here, word_keeps, word-forward, word-backward, starts, word-starts}
 
@@ -37,7 +37,7 @@ pub before_more : {A : Type 0} {text : A → List ℕ} {fit : A → Type 0} {rea
 before_more more p r = record { keeps = r.keeps; forward = λ s c a t g h. r.forward s c a t g (p t h); backward = r.backward }
 
 -- a word
-pub word-reads : (w : List ℕ) → Reads (λ (_ : Unit {0}). w) (λ _. Unit {0}) (λ s c. tt) (λ s c. fold (eatOf s) c w) anything
+pub word-reads : (w : List ℕ) → Reads (λ (_ : Unit {0}). w) (λ _. Unit {0}) (λ s c. tt) (λ s c. fold (eat_of s) c w) anything
 word-reads w = record {
   keeps = λ s c. word_keeps s w c;
   forward = λ s c a t g h k. (refl, word-forward s w c t k);
@@ -46,53 +46,53 @@ word-reads w = record {
 
 -- One reading after another; the second may go by what the first read. What the second prints is what the first wants after it.
 module _ {A : Type 0} {B : A → Type 0}
-    {textA : A → List ℕ} {fitA : A → Type 0} {read_a : List ℕ → Cursor → A} {nextA : List ℕ → Cursor → Cursor} {beforeA : List ℕ → Bool}
-    {textB : (a : A) → B a → List ℕ} {fitB : (a : A) → B a → Type 0} {readB : (a : A) → List ℕ → Cursor → B a} {nextB : A → List ℕ → Cursor → Cursor} {beforeB : List ℕ → Bool}
-    (first : Reads textA fitA read_a nextA beforeA) (second : (a : A) → Reads (textB a) (fitB a) (readB a) (nextB a) beforeB)
-    (parts : (a : A) (b : B a) (t : List ℕ) → beforeB t ≡ true → beforeA (textB a b ++ t) ≡ true) where
-  then-forward : (s : List ℕ) (c : Cursor) (p : (a : A) × B a) (t : List ℕ) → fitA p.0 × fitB p.0 p.1 → beforeB t ≡ true
-      → Here s c ((textA p.0 ++ textB p.0 p.1) ++ t)
-      → (◌≡◌ {A = (a : A) × B a} (read_a s c, readB (read_a s c) s (nextA s c)) p) × Here s (nextB (read_a s c) s (nextA s c)) t
+    {text_a : A → List ℕ} {fit_a : A → Type 0} {read_a : List ℕ → Cursor → A} {next_a : List ℕ → Cursor → Cursor} {before_a : List ℕ → Bool}
+    {text_b : (a : A) → B a → List ℕ} {fit_b : (a : A) → B a → Type 0} {read_b : (a : A) → List ℕ → Cursor → B a} {next_b : A → List ℕ → Cursor → Cursor} {before_b : List ℕ → Bool}
+    (first : Reads text_a fit_a read_a next_a before_a) (second : (a : A) → Reads (text_b a) (fit_b a) (read_b a) (next_b a) before_b)
+    (parts : (a : A) (b : B a) (t : List ℕ) → before_b t ≡ true → before_a (text_b a b ++ t) ≡ true) where
+  then-forward : (s : List ℕ) (c : Cursor) (p : (a : A) × B a) (t : List ℕ) → fit_a p.0 × fit_b p.0 p.1 → before_b t ≡ true
+      → Here s c ((text_a p.0 ++ text_b p.0 p.1) ++ t)
+      → (◌≡◌ {A = (a : A) × B a} (read_a s c, read_b (read_a s c) s (next_a s c)) p) × Here s (next_b (read_a s c) s (next_a s c)) t
   then-forward s c p t g h k =
-      let e : Here s c (textA p.0 ++ (textB p.0 p.1 ++ t)) = rw append_assoc at k in
-      let f = first.forward s c p.0 (textB p.0 p.1 ++ t) g.0 (parts p.0 p.1 t h) e in
-      let r = (second p.0).forward s (nextA s c) p.1 t g.1 h f.1 in
-      let both : (◌≡◌ {A = (a : A) × B a} (p.0, readB p.0 s (nextA s c)) p) × Here s (nextB p.0 s (nextA s c)) t = (ap (λ b. (p.0, b)) r.0, r.1) in
-      subst (λ (a : A). (◌≡◌ {A = (a : A) × B a} (a, readB a s (nextA s c)) p) × Here s (nextB a s (nextA s c)) t) (sym f.0) both
+      let e : Here s c (text_a p.0 ++ (text_b p.0 p.1 ++ t)) = rw append_assoc at k in
+      let f = first.forward s c p.0 (text_b p.0 p.1 ++ t) g.0 (parts p.0 p.1 t h) e in
+      let r = (second p.0).forward s (next_a s c) p.1 t g.1 h f.1 in
+      let both : (◌≡◌ {A = (a : A) × B a} (p.0, read_b p.0 s (next_a s c)) p) × Here s (next_b p.0 s (next_a s c)) t = (ap (λ b. (p.0, b)) r.0, r.1) in
+      subst (λ (a : A). (◌≡◌ {A = (a : A) × B a} (a, read_b a s (next_a s c)) p) × Here s (next_b a s (next_a s c)) t) (sym f.0) both
 
-  then-backward : (s : List ℕ) (c : Cursor) (t : List ℕ) → Here s c t → (nextB (read_a s c) s (nextA s c)).ok ≡ true
-      → (u : List ℕ) × (fitA (read_a s c) × fitB (read_a s c) (readB (read_a s c) s (nextA s c)))
-      × (t ≡ (textA (read_a s c) ++ textB (read_a s c) (readB (read_a s c) s (nextA s c))) ++ u) × Here s (nextB (read_a s c) s (nextA s c)) u
+  then-backward : (s : List ℕ) (c : Cursor) (t : List ℕ) → Here s c t → (next_b (read_a s c) s (next_a s c)).ok ≡ true
+      → (u : List ℕ) × (fit_a (read_a s c) × fit_b (read_a s c) (read_b (read_a s c) s (next_a s c)))
+      × (t ≡ (text_a (read_a s c) ++ text_b (read_a s c) (read_b (read_a s c) s (next_a s c))) ++ u) × Here s (next_b (read_a s c) s (next_a s c)) u
   then-backward s c t h k =
       let a = read_a s c in
-      let f = first.backward s c t h ((second a).keeps s (nextA s c) k) in
-      let g = (second a).backward s (nextA s c) f.0 f.3 k in
-      (g.0, (f.1, g.1), f.2 ∙ ap (λ l. textA a ++ l) g.2 ∙ sym (append_assoc (textA a) (textB a (readB a s (nextA s c))) g.0), g.3)
+      let f = first.backward s c t h ((second a).keeps s (next_a s c) k) in
+      let g = (second a).backward s (next_a s c) f.0 f.3 k in
+      (g.0, (f.1, g.1), f.2 ∙ ap (λ l. text_a a ++ l) g.2 ∙ sym (append_assoc (text_a a) (text_b a (read_b a s (next_a s c))) g.0), g.3)
 
-  pub then-reads : Reads {A = (a : A) × B a} (λ p. textA p.0 ++ textB p.0 p.1) (λ p. fitA p.0 × fitB p.0 p.1)
-      (λ s c. (read_a s c, readB (read_a s c) s (nextA s c))) (λ s c. nextB (read_a s c) s (nextA s c)) beforeB
+  pub then-reads : Reads {A = (a : A) × B a} (λ p. text_a p.0 ++ text_b p.0 p.1) (λ p. fit_a p.0 × fit_b p.0 p.1)
+      (λ s c. (read_a s c, read_b (read_a s c) s (next_a s c))) (λ s c. next_b (read_a s c) s (next_a s c)) before_b
   then-reads = record {
-    keeps = λ s c k. first.keeps s c ((second (read_a s c)).keeps s (nextA s c) k);
+    keeps = λ s c k. first.keeps s c ((second (read_a s c)).keeps s (next_a s c) k);
     forward = then-forward;
     backward = then-backward;
   }
 
 -- the same where the second does not go by what the first read
 pub and-reads : {A B : Type 0}
-    {textA : A → List ℕ} {fitA : A → Type 0} {read_a : List ℕ → Cursor → A} {nextA : List ℕ → Cursor → Cursor} {beforeA : List ℕ → Bool}
-    {textB : B → List ℕ} {fitB : B → Type 0} {readB : List ℕ → Cursor → B} {nextB : List ℕ → Cursor → Cursor} {beforeB : List ℕ → Bool}
-    → Reads textA fitA read_a nextA beforeA → Reads textB fitB readB nextB beforeB → ((b : B) (t : List ℕ) → beforeB t ≡ true → beforeA (textB b ++ t) ≡ true)
-    → Reads {A = A × B} (λ p. textA p.0 ++ textB p.1) (λ p. fitA p.0 × fitB p.1) (λ s c. (read_a s c, readB s (nextA s c))) (λ s c. nextB s (nextA s c)) beforeB
+    {text_a : A → List ℕ} {fit_a : A → Type 0} {read_a : List ℕ → Cursor → A} {next_a : List ℕ → Cursor → Cursor} {before_a : List ℕ → Bool}
+    {text_b : B → List ℕ} {fit_b : B → Type 0} {read_b : List ℕ → Cursor → B} {next_b : List ℕ → Cursor → Cursor} {before_b : List ℕ → Bool}
+    → Reads text_a fit_a read_a next_a before_a → Reads text_b fit_b read_b next_b before_b → ((b : B) (t : List ℕ) → before_b t ≡ true → before_a (text_b b ++ t) ≡ true)
+    → Reads {A = A × B} (λ p. text_a p.0 ++ text_b p.1) (λ p. fit_a p.0 × fit_b p.1) (λ s c. (read_a s c, read_b s (next_a s c))) (λ s c. next_b s (next_a s c)) before_b
 and-reads first second parts = then-reads first (λ a. second) (λ a. parts)
 
 -- The same text read as something else: f of what was read, and g the way back.
 module _ {A B : Type 0} {text : A → List ℕ} {fit : A → Type 0} {read : List ℕ → Cursor → A} {next : List ℕ → Cursor → Cursor} {before : List ℕ → Bool}
-    {textB : B → List ℕ} {fitB : B → Type 0} {readB : List ℕ → Cursor → B} {nextB : List ℕ → Cursor → Cursor}
-    (f : A → B) (g : B → A) (whole : (b : B) → f (g b) ≡ b) (text-to : (b : B) → textB b ≡ text (g b)) (text_of : (a : A) → textB (f a) ≡ text a)
-    (fit-to : (b : B) → fitB b → fit (g b)) (fit_of : (a : A) → fit a → fitB (f a))
-    (read_is : (s : List ℕ) (c : Cursor) → readB s c ≡ f (read s c)) (next-is : (s : List ℕ) (c : Cursor) → nextB s c ≡ next s c)
+    {text_b : B → List ℕ} {fit_b : B → Type 0} {read_b : List ℕ → Cursor → B} {next_b : List ℕ → Cursor → Cursor}
+    (f : A → B) (g : B → A) (whole : (b : B) → f (g b) ≡ b) (text-to : (b : B) → text_b b ≡ text (g b)) (text_of : (a : A) → text_b (f a) ≡ text a)
+    (fit-to : (b : B) → fit_b b → fit (g b)) (fit-of : (a : A) → fit a → fit_b (f a))
+    (read_is : (s : List ℕ) (c : Cursor) → read_b s c ≡ f (read s c)) (next-is : (s : List ℕ) (c : Cursor) → next_b s c ≡ next s c)
     (r : Reads text fit read next before) where
-  pub as-reads : Reads textB fitB readB nextB before
+  pub as-reads : Reads text_b fit_b read_b next_b before
   as-reads = record {
     keeps = λ s c k. r.keeps s c (sym (ap (λ d. d.ok) (next-is s c)) ∙ k);
     forward = λ s c b t p h k.
@@ -101,18 +101,18 @@ module _ {A B : Type 0} {text : A → List ℕ} {fit : A → Type 0} {read : Lis
         (read_is s c ∙ ap f q.0 ∙ whole b, rw (next-is s c) q.1);
     backward = λ s c t h k.
         let q = r.backward s c t h (sym (ap (λ d. d.ok) (next-is s c)) ∙ k) in
-        (q.0, rw (read_is s c) (fit_of (read s c) q.1), q.2 ∙ ap (λ l. l ++ q.0) (sym (text_of (read s c)) ∙ ap textB (sym (read_is s c))), subst (λ (d : Cursor). Here s d q.0) (sym (next-is s c)) q.3);
+        (q.0, rw (read_is s c) (fit-of (read s c) q.1), q.2 ∙ ap (λ l. l ++ q.0) (sym (text_of (read s c)) ∙ ap text_b (sym (read_is s c))), subst (λ (d : Cursor). Here s d q.0) (sym (next-is s c)) q.3);
   }
 
 -- A word in front, or behind.
 module _ {A : Type 0} {text : A → List ℕ} {fit : A → Type 0} {read : List ℕ → Cursor → A} {next : List ℕ → Cursor → Cursor} {before : List ℕ → Bool} (w : List ℕ) where
-  pub after-word : Reads text fit read next before → Reads (λ a. w ++ text a) fit (λ s c. read s (fold (eatOf s) c w)) (λ s c. next s (fold (eatOf s) c w)) before
+  pub after-word : Reads text fit read next before → Reads (λ a. w ++ text a) fit (λ s c. read s (fold (eat_of s) c w)) (λ s c. next s (fold (eat_of s) c w)) before
   after-word r =
       as-reads (λ p. p.1) (λ a. (tt, a)) (λ b. refl) (λ b. refl) (λ a. refl) (λ b h. (tt, h)) (λ a h. h.1) (λ s c. refl) (λ s c. refl)
       (and-reads (word-reads w) r (λ b t h. refl))
 
   pub then-word : ((t : List ℕ) → before (w ++ t) ≡ true) → Reads text fit read next before
-      → Reads (λ a. text a ++ w) fit read (λ s c. fold (eatOf s) (next s c) w) anything
+      → Reads (λ a. text a ++ w) fit read (λ s c. fold (eat_of s) (next s c) w) anything
   then-word p r =
       as-reads (λ q. q.0) (λ a. (a, tt)) (λ b. refl) (λ b. refl) (λ a. refl) (λ b h. (h, tt)) (λ a h. h.0) (λ s c. refl) (λ s c. refl)
       (and-reads r (word-reads w) (λ b t h. p t))
@@ -121,23 +121,23 @@ module _ {A : Type 0} {text : A → List ℕ} {fit : A → Type 0} {read : List 
 module _ {K : Type 0} (name : K → List ℕ) where
   unfoldable pub pick : List ℕ → Cursor → List K → K → K
   pick s c [] d = d
-  pick s c (k ∷ l) d = cond (fold (eatOf s) c (name k)).ok k (pick s c l d)
+  pick s c (k ∷ l) d = cond (fold (eat_of s) c (name k)).ok k (pick s c l d)
 
-  abbrev pub pickText : List K → K → List ℕ → K
-  pickText [] d t = d
-  pickText (k ∷ l) d t = cond (starts (name k) t) k (pickText l d t)
+  abbrev pub pick_text : List K → K → List ℕ → K
+  pick_text [] d t = d
+  pick_text (k ∷ l) d t = cond (starts (name k) t) k (pick_text l d t)
 
-  pick-here : (s : List ℕ) (c : Cursor) (l : List K) (d : K) (t : List ℕ) → Here s c t → pick s c l d ≡ pickText l d t
+  pick-here : (s : List ℕ) (c : Cursor) (l : List K) (d : K) (t : List ℕ) → Here s c t → pick s c l d ≡ pick_text l d t
   unfolding pick
   pick-here s c [] d t h = refl
   pick-here s c (k ∷ l) d t h = ap₂ (λ b r. cond b k r) (word-starts s (name k) c t h) (pick-here s c l d t h)
 
-  pub pick-reads : (l : List K) (d : K) (before : List ℕ → Bool) → ((k : K) (t : List ℕ) → before t ≡ true → pickText l d (name k ++ t) ≡ k)
-      → Reads name (λ _. Unit {0}) (λ s c. pick s c l d) (λ s c. fold (eatOf s) c (name (pick s c l d))) before
+  pub pick-reads : (l : List K) (d : K) (before : List ℕ → Bool) → ((k : K) (t : List ℕ) → before t ≡ true → pick_text l d (name k ++ t) ≡ k)
+      → Reads name (λ _. Unit {0}) (λ s c. pick s c l d) (λ s c. fold (eat_of s) c (name (pick s c l d))) before
   pick-reads l d before found = record {
     keeps = λ s c. word_keeps s (name (pick s c l d)) c;
     forward = λ s c k t p h q.
         let e : pick s c l d ≡ k = pick-here s c l d (name k ++ t) q ∙ found k t h in
-        (e, subst (λ (j : K). Here s (fold (eatOf s) c (name j)) t) (sym e) (word-forward s (name k) c t q));
+        (e, subst (λ (j : K). Here s (fold (eat_of s) c (name j)) t) (sym e) (word-forward s (name k) c t q));
     backward = λ s c t h k. let b = word-backward s (name (pick s c l d)) c t h k in (b.0, tt, b.1, b.2);
   }

@@ -7,18 +7,18 @@ decimal zero n = (48 + n) ∷ []
 decimal (suc k) n = cond (ltb n 10) ((48 + n) ∷ []) (decimal k (n / 10) ++ (48 + n % 10) ∷ [])
 
 -- a whole number: one to five digits
-abbrev pub wholeText : ℕ → List ℕ
-wholeText n = decimal 4 n
+abbrev pub whole_text : ℕ → List ℕ
+whole_text n = decimal 4 n
 
 -- 0 to 9 and a to f
-unfoldable pub hexDigit : ℕ → ℕ
-hexDigit d = cond (ltb d 10) (48 + d) (87 + d)
+unfoldable pub hex_digit : ℕ → ℕ
+hex_digit d = cond (ltb d 10) (48 + d) (87 + d)
 
 -- the last k hexadecimal digits of b
 unfoldable pub hexadecimal : ℕ → ℕ → List ℕ
 hexadecimal zero b = []
-hexadecimal (suc k) b = hexadecimal k (b / 16) ++ hexDigit (b % 16) ∷ []
+hexadecimal (suc k) b = hexadecimal k (b / 16) ++ hex_digit (b % 16) ∷ []
 
 -- a float, by the pattern of its bits: sixteen digits
-abbrev pub floatText : ℕ → List ℕ
-floatText b = hexadecimal 16 b
+abbrev pub float_text : ℕ → List ℕ
+float_text b = hexadecimal 16 b

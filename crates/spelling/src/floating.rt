@@ -2,14 +2,14 @@
 ghost use Rattle.std.specs.Prelude.{◌≡◌};
 ghost use Rattle.std.specs.Float.{binary64};
 ghost use Rattle.std.specs.Float.Ieee.{of_bits};
-ghost use Rattle.spelling.specs.Floating.{hexOf, nextHex, bits_at, float_at};
+ghost use Rattle.spelling.specs.Floating.{hex_of, next_hex, bits_at, float_at};
 
 use crate::places::{byte, further, spoilt};
 use crate::{BitsRead, Cursor, FloatRead};
 
 // What a hexadecimal digit stands for; 16 for any other byte.
 fn hex(b: u8) -> u64
-    ensures { result ≡ hexOf b }
+    ensures { result ≡ hex_of b }
 {
     if b < b'0' {
         16
@@ -26,7 +26,7 @@ fn hex(b: u8) -> u64
 
 // One digit more, which has to be there. A seventeenth would not fit.
 fn next_hex(s: &[u8], f: BitsRead) -> BitsRead
-    ensures { result ≡ nextHex s.now f }
+    ensures { result ≡ next_hex s.now f }
 {
     let next = f.next;
     let bits = f.bits;

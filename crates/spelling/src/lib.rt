@@ -1,6 +1,9 @@
 // How the bytes of a text are read: a place among them, words, whole numbers and floats. Each reading takes a place and gives
 // the next one. A reading that fails gives a spoilt place, from which every later reading fails too, so that a reader goes
 // straight on and looks once, at the end, whether its place is still good.
+
+#![tactic(auto)]
+
 mod floating;
 mod places;
 mod wholes;

@@ -1,7 +1,7 @@
 // Places among the bytes: what stands at one, the next one, and words.
 ghost use Rattle.std.specs.Prelude.{◌≡◌};
 ghost use Rattle.loops.specs.Turns.{fold};
-ghost use Rattle.spelling.specs.Places.{byte_at, furtherOf, spoiltOf, eatOf};
+ghost use Rattle.spelling.specs.Places.{byte_at, further_of, spoilt_of, eat_of};
 
 use crate::Cursor;
 
@@ -17,7 +17,7 @@ pub(crate) fn byte(s: &[u8], c: Cursor) -> u8
 }
 
 pub(crate) fn spoilt(c: Cursor) -> Cursor
-    ensures { result ≡ spoiltOf c }
+    ensures { result ≡ spoilt_of c }
 {
     Cursor {
         at: c.at,
@@ -27,7 +27,7 @@ pub(crate) fn spoilt(c: Cursor) -> Cursor
 
 // One byte on; there is nothing after the end.
 pub(crate) fn further(s: &[u8], c: Cursor) -> Cursor
-    ensures { result ≡ furtherOf s.now c }
+    ensures { result ≡ further_of s.now c }
 {
     if c.at < s.len() {
         Cursor {
@@ -41,7 +41,7 @@ pub(crate) fn further(s: &[u8], c: Cursor) -> Cursor
 
 // Past the byte b, which has to stand there.
 pub fn eat(s: &[u8], c: Cursor, b: u8) -> Cursor
-    ensures { result ≡ eatOf s.now c b }
+    ensures { result ≡ eat_of s.now c b }
 {
     if byte(s, c) == b {
         further(s, c)
@@ -52,7 +52,7 @@ pub fn eat(s: &[u8], c: Cursor, b: u8) -> Cursor
 
 // Past the word w.
 pub fn word(s: &[u8], c: Cursor, w: &[u8]) -> Cursor
-    ensures { result ≡ fold (eatOf s.now) c w.now }
+    ensures { result ≡ fold (eat_of s.now) c w.now }
 {
     let mut next = c;
     for i in 0..w.len() {

@@ -1,13 +1,13 @@
 // Whole numbers: one to five digits, and no zero in front of others.
 ghost use Rattle.std.specs.Prelude.{◌≡◌};
-ghost use Rattle.spelling.specs.Wholes.{digitOf, first_of, moreOf, whole_at};
+ghost use Rattle.spelling.specs.Wholes.{digit_of, first_digit_of, more_of, whole_at};
 
 use crate::places::{byte, further, spoilt};
 use crate::{Cursor, WholeRead};
 
 // What a decimal digit stands for; 10 for any other byte.
 fn digit(b: u8) -> usize
-    ensures { result ≡ digitOf b }
+    ensures { result ≡ digit_of b }
 {
     if b < b'0' {
         10
@@ -20,7 +20,7 @@ fn digit(b: u8) -> usize
 
 // The first digit, which has to be there.
 fn first_digit(s: &[u8], c: Cursor) -> WholeRead
-    ensures { result ≡ first_of s.now c }
+    ensures { result ≡ first_digit_of s.now c }
 {
     let d = digit(byte(s, c));
     if d < 10 {
@@ -38,7 +38,7 @@ fn first_digit(s: &[u8], c: Cursor) -> WholeRead
 
 // One digit more, where one stands there. Nothing goes on from 0, nor from five digits.
 fn more_digits(s: &[u8], n: WholeRead) -> WholeRead
-    ensures { result ≡ moreOf s.now n }
+    ensures { result ≡ more_of s.now n }
 {
     let next = n.next;
     let value = n.value;

@@ -7,7 +7,7 @@ use Prim.Native.Nat.{ℕ}
 use Rattle.sketch.specs.declared.Build.{Build}
 use Rattle.sketch.specs.declared.Ending.TheVariants.{TooLong, BadForm, TooMany}
 use Rattle.text.specs.Given.{ReadsExactly}
-use Rattle.text.specs.Reader.{countsAt, overCounts, buildAt, judged, tooLong, badCounts, badRest, read_of}
+use Rattle.text.specs.Reader.{counts_at, over_counts, build_at, judged, too_long, bad_counts, bad_rest, read_of}
 use Rattle.text.specs.declared.Outcome.TheVariants.{Read, Ends}
 use Rattle.text.specs.Given.{}
 
@@ -43,11 +43,11 @@ module _ (b : Build) where
 pub reads-exactly : (s : List ℕ) → ReadsExactly s
 unfolding read_of
 reads-exactly s =
-    let n = countsAt s in
-    let b = buildAt s n in
+    let n = counts_at s in
+    let b = build_at s n in
     record {
-      one = first b.build (tooLong s) (badCounts n) (overCounts n) (badRest s b);
-      two = second b.build (tooLong s) (badCounts n) (overCounts n) (badRest s b);
-      three = third b.build (tooLong s) (badCounts n) (overCounts n) (badRest s b);
-      whole = whole b.build (tooLong s) (badCounts n) (overCounts n) (badRest s b);
+      one = first b.build (too_long s) (bad_counts n) (over_counts n) (bad_rest s b);
+      two = second b.build (too_long s) (bad_counts n) (over_counts n) (bad_rest s b);
+      three = third b.build (too_long s) (bad_counts n) (over_counts n) (bad_rest s b);
+      whole = whole b.build (too_long s) (bad_counts n) (over_counts n) (bad_rest s b);
     }

@@ -2,14 +2,14 @@
 -- four count lines (2); 3; the rest of the form (2).
 use Rattle.std.specs.Prelude.{true, false, not, ◌&&◌, ◌||◌, List, ◌↔◌, ◌≡◌, ℕ}
 use Rattle.sketch.specs.declared.Ending.TheVariants.{TooLong, BadForm, TooMany}
-use Rattle.text.specs.Reader.{countsAt, overCounts, buildAt, tooLong, badCounts, badRest, read_of}
+use Rattle.text.specs.Reader.{counts_at, over_counts, build_at, too_long, bad_counts, bad_rest, read_of}
 use Rattle.text.specs.declared.Outcome.TheVariants.{Read, Ends}
 
 pub record ReadsExactly (s : List ℕ) : Type 0 where
-  pub one : (read_of s).outcome ≡ Ends TooLong ↔ tooLong s ≡ true
+  pub one : (read_of s).outcome ≡ Ends TooLong ↔ too_long s ≡ true
   pub two : (read_of s).outcome ≡ Ends BadForm
-      ↔ (tooLong s ≡ false) × (badCounts (countsAt s) || not (overCounts (countsAt s)) && badRest s (buildAt s (countsAt s)) ≡ true)
+      ↔ (too_long s ≡ false) × (bad_counts (counts_at s) || not (over_counts (counts_at s)) && bad_rest s (build_at s (counts_at s)) ≡ true)
   pub three : (read_of s).outcome ≡ Ends TooMany
-      ↔ (tooLong s ≡ false) × (badCounts (countsAt s) ≡ false) × (overCounts (countsAt s) ≡ true)
+      ↔ (too_long s ≡ false) × (bad_counts (counts_at s) ≡ false) × (over_counts (counts_at s) ≡ true)
   pub whole : (read_of s).outcome ≡ Read
-      ↔ (tooLong s ≡ false) × (badCounts (countsAt s) ≡ false) × (overCounts (countsAt s) ≡ false) × (badRest s (buildAt s (countsAt s)) ≡ false)
+      ↔ (too_long s ≡ false) × (bad_counts (counts_at s) ≡ false) × (over_counts (counts_at s) ≡ false) × (bad_rest s (build_at s (counts_at s)) ≡ false)

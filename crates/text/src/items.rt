@@ -1,6 +1,6 @@
 // The items of a job: as many lines of each sort as its count says.
 ghost use Rattle.std.specs.Prelude.{◌≡◌, ◌≤◌};
-ghost use Rattle.text.specs.Items.{pointsAt, linesAt, equationsAt, measuresAt};
+ghost use Rattle.text.specs.Items.{points_at, lines_at, equations_at, measures_at};
 
 use crate::rows::{equation_line, line_line, measure_line, point_line};
 use crate::{EquationsRead, LinesRead, MeasuresRead, PointsRead};
@@ -10,7 +10,7 @@ use spelling::Cursor;
 
 pub(crate) fn points(s: &[u8], c: Cursor, k: usize) -> PointsRead
     requires { k ≤ 40 }
-    ensures { result ≡ pointsAt s.now c k }
+    ensures { result ≡ points_at s.now c k }
 {
     let blank = Point {
         start: Vec2 { x: 0.0, y: 0.0 },
@@ -29,7 +29,7 @@ pub(crate) fn points(s: &[u8], c: Cursor, k: usize) -> PointsRead
 
 pub(crate) fn lines(s: &[u8], c: Cursor, k: usize) -> LinesRead
     requires { k ≤ 40 }
-    ensures { result ≡ linesAt s.now c k }
+    ensures { result ≡ lines_at s.now c k }
 {
     let blank = Line {
         from: PointNo(0),
@@ -48,7 +48,7 @@ pub(crate) fn lines(s: &[u8], c: Cursor, k: usize) -> LinesRead
 
 pub(crate) fn equations(s: &[u8], c: Cursor, k: usize) -> EquationsRead
     requires { k ≤ 40 }
-    ensures { result ≡ equationsAt s.now c k }
+    ensures { result ≡ equations_at s.now c k }
 {
     let blank = Active {
         equation: Equation::Held,
@@ -66,7 +66,7 @@ pub(crate) fn equations(s: &[u8], c: Cursor, k: usize) -> EquationsRead
 
 pub(crate) fn measures(s: &[u8], c: Cursor, k: usize) -> MeasuresRead
     requires { k ≤ 20 }
-    ensures { result ≡ measuresAt s.now c k }
+    ensures { result ≡ measures_at s.now c k }
 {
     let blank = Measured {
         measure: Measure::Length(LineNo(0)),

@@ -1,5 +1,8 @@
 // The text of a job: from its bytes to a build (document 01, "The text"). Each reading takes a place and gives the next; what
 // fails gives a spoilt place, which stays spoilt, so that the form is judged once, where the reading ends.
+
+#![tactic(auto)]
+
 mod items;
 mod reader;
 mod rows;

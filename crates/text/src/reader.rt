@@ -1,6 +1,6 @@
 // The whole text, in document 01's order: its length, the form of the four count lines, the counts' bounds, the rest of the form.
 ghost use Rattle.std.specs.Prelude.{◌≡◌, false};
-ghost use Rattle.text.specs.Reader.{countAt, countsAt, overCounts, buildAt, refusedWith, read_of};
+ghost use Rattle.text.specs.Reader.{count_at, counts_at, over_counts, build_at, refused_with, read_of};
 
 use crate::items::{equations, lines, measures, points};
 use crate::{BuildRead, CountsRead, Outcome, Reading};
@@ -12,7 +12,7 @@ use sketch::{
 use spelling::{Cursor, WholeRead, eat, float, whole, word};
 
 fn count(s: &[u8], c: Cursor, key: &[u8]) -> WholeRead
-    ensures { result ≡ countAt s.now c key.now }
+    ensures { result ≡ count_at s.now c key.now }
 {
     let n = whole(s, word(s, c, key));
     WholeRead {
@@ -22,7 +22,7 @@ fn count(s: &[u8], c: Cursor, key: &[u8]) -> WholeRead
 }
 
 fn counts(s: &[u8]) -> CountsRead
-    ensures { result ≡ countsAt s.now }
+    ensures { result ≡ counts_at s.now }
 {
     let start = Cursor { at: 0, ok: true };
     let p = count(s, start, b"points=");
@@ -40,15 +40,15 @@ fn counts(s: &[u8]) -> CountsRead
 }
 
 fn too_many(n: CountsRead) -> bool
-    ensures { result ≡ overCounts n }
+    ensures { result ≡ over_counts n }
 {
     (n.points > 40) | (n.lines > 40) | (n.equations > 40) | (n.measures > 20)
 }
 
 // What comes after the counts.
 fn rest(s: &[u8], n: CountsRead) -> BuildRead
-    requires { overCounts n ≡ false }
-    ensures { result ≡ buildAt s.now n }
+    requires { over_counts n ≡ false }
+    ensures { result ≡ build_at s.now n }
 {
     let v = vec(s, word(s, n.next, b"centre="));
     let z = float(s, word(s, v.next, b"\nsize="));
@@ -81,7 +81,7 @@ fn rest(s: &[u8], n: CountsRead) -> BuildRead
 
 // A refusal hands out a build with nothing in it.
 fn refused(ending: Ending) -> Reading
-    ensures { result ≡ refusedWith ending }
+    ensures { result ≡ refused_with ending }
 {
     let point = Point {
         start: Vec2 { x: 0.0, y: 0.0 },

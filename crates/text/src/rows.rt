@@ -1,6 +1,6 @@
 // The lines of the items: a key, what it holds, and a newline.
 ghost use Rattle.std.specs.Prelude.{◌≡◌};
-ghost use Rattle.text.specs.Lines.{stateAt, pointLine, lineLine, equationLine, measureLine};
+ghost use Rattle.text.specs.Lines.{state_at, point_line, line_line, equation_line, measure_line};
 
 use crate::{ActiveRead, LineRead, MeasuredRead, PointRead, StateRead};
 use phrases::{equation, measure, number, vec};
@@ -8,7 +8,7 @@ use sketch::{Active, Line, Measured, Point, PointNo, State};
 use spelling::{Cursor, eat, whole, word};
 
 fn state(s: &[u8], c: Cursor) -> StateRead
-    ensures { result ≡ stateAt s.now c }
+    ensures { result ≡ state_at s.now c }
 {
     let free = word(s, c, b",free");
     if free.ok {
@@ -34,7 +34,7 @@ fn state(s: &[u8], c: Cursor) -> StateRead
 }
 
 pub(crate) fn point_line(s: &[u8], c: Cursor) -> PointRead
-    ensures { result ≡ pointLine s.now c }
+    ensures { result ≡ point_line s.now c }
 {
     let v = vec(s, word(s, c, b"p="));
     let t = state(s, v.next);
@@ -47,7 +47,7 @@ pub(crate) fn point_line(s: &[u8], c: Cursor) -> PointRead
 }
 
 pub(crate) fn line_line(s: &[u8], c: Cursor) -> LineRead
-    ensures { result ≡ lineLine s.now c }
+    ensures { result ≡ line_line s.now c }
 {
     let from = whole(s, word(s, c, b"l="));
     let to = number(s, from.next);
@@ -61,7 +61,7 @@ pub(crate) fn line_line(s: &[u8], c: Cursor) -> LineRead
 }
 
 pub(crate) fn equation_line(s: &[u8], c: Cursor) -> ActiveRead
-    ensures { result ≡ equationLine s.now c }
+    ensures { result ≡ equation_line s.now c }
 {
     let e = equation(s, word(s, c, b"e="));
     let equation = e.equation;
@@ -72,7 +72,7 @@ pub(crate) fn equation_line(s: &[u8], c: Cursor) -> ActiveRead
 }
 
 pub(crate) fn measure_line(s: &[u8], c: Cursor) -> MeasuredRead
-    ensures { result ≡ measureLine s.now c }
+    ensures { result ≡ measure_line s.now c }
 {
     let m = measure(s, word(s, c, b"m="));
     let measure = m.measure;

@@ -12,7 +12,7 @@ use lib.Ieee.{Float, nan}
 use lib.ListN.{length, take, drop, drop_of_length-le}
 use lib.Seq.{take_all}
 use Rattle.loops.proofs.Writes.{into_next}
-use Rattle.floats.specs.Lists.{copiedOf}
+use Rattle.floats.specs.Lists.{copied_of}
 use Rattle.floats.proofs.copy.Statement.{statement}
 use Rattle.floats.proofs.copy.Tie as tie
 
@@ -25,20 +25,20 @@ right n a b i e h = omega (arith, min-le_right a b)
 
 ruleset reach = (left, right)
 
-ended : (l t : List Float) (i : ℕ) → i ≡ min (length l) (length t) → map (λ (x : Float). x) (take i l) ++ drop i t ≡ copiedOf l t
+ended : (l t : List Float) (i : ℕ) → i ≡ min (length l) (length t) → map (λ (x : Float). x) (take i l) ++ drop i t ≡ copied_of l t
 ended l t i e = split (ltb (length l) (length t)) refl
   where
-    first : length l < length t → map (λ (x : Float). x) (take i l) ++ drop i t ≡ copiedOf l t
+    first : length l < length t → map (λ (x : Float). x) (take i l) ++ drop i t ≡ copied_of l t
     first h =
         let q : i ≡ length l = e ∙ min-eq_left (le_of_lt h) in
         rw (map-id, q, take_all (length l) l (le_refl (length l)), take_all (length t) l (le_of_lt h))
 
-    second : length t ≤ length l → map (λ (x : Float). x) (take i l) ++ drop i t ≡ copiedOf l t
+    second : length t ≤ length l → map (λ (x : Float). x) (take i l) ++ drop i t ≡ copied_of l t
     second h =
         let q : i ≡ length t = e ∙ min-eq_right h in
         rw (map-id, q, drop_of_length-le t h, drop_of_length-le t (le_refl (length t)))
 
-    split : (b : Bool) → ltb (length l) (length t) ≡ b → map (λ (x : Float). x) (take i l) ++ drop i t ≡ copiedOf l t
+    split : (b : Bool) → ltb (length l) (length t) ≡ b → map (λ (x : Float). x) (take i l) ++ drop i t ≡ copied_of l t
     split true h = first (ltb-true _ _ h)
     split false h = second (ltb-false _ _ h)
 

@@ -3,7 +3,7 @@ use Rattle.floats.proofs.Sign.{abs-bits}
 use lib.Ieee.{to_bits}
 use borrow.Author.Rules.{rules}
 use Rattle.floats.proofs.Values.{only_nan, no_nan}
-use Rattle.floats.specs.Magnitude.{magnitudeOf}
+use Rattle.floats.specs.Magnitude.{magnitude_of}
 use Rattle.floats.proofs.magnitude.Statement.{statement}
 use Rattle.floats.proofs.magnitude.Tie as tie
 
@@ -11,11 +11,11 @@ float-to-bits-result : tie.Need-float-to-bits-result
 float-to-bits-result c = no_nan _ c.if1.false
 
 returns : tie.Need-returns
-unfolding magnitudeOf to_bits
+unfolding magnitude_of to_bits
 returns c = rw (only_nan _ c.if1.true)
 
 returns-2 : tie.Need-returns-2
-unfolding magnitudeOf
+unfolding magnitude_of
 returns-2 c = abs-bits _ (search rules) (no_nan _ c.if1.false)
 
 pub magnitude-spec : {M : Type 1} → statement M

@@ -12,9 +12,9 @@ use Rattle.floats.specs.Ops.{zero⁺}
 use Rattle.loops.specs.Numbers.{values}
 use Rattle.loops.proofs.Parts.{front, still-fits, refilled}
 use Rattle.nullspace.specs.declared.NullSpace.TheVariants.{Rank}
-use Rattle.nullspace.specs.Steps.{Qr, reflectorsOf, rank_of}
-use Rattle.nullspace.specs.Promise.{Spans, meaningOf, decomposedOf, foundIn, vectors_of}
-use Rattle.nullspace.proofs.Checking.{too_many_rows, too-many-columns, short-matrix, short-work, short-output, carried-out}
+use Rattle.nullspace.specs.Steps.{Qr, reflectors_of, rank_of}
+use Rattle.nullspace.specs.Promise.{Spans, meaning_of, decomposed_of, found_in, vectors_of}
+use Rattle.nullspace.proofs.Checking.{too-many-rows, too-many-columns, short-matrix, short-work, short-output, carried-out}
 use Rattle.nullspace.proofs.Laid.{found, basis-read}
 use borrow.Author.Rules.{rules}
 use Rattle.nullspace.proofs.null_space.Statement.{statement}
@@ -24,16 +24,16 @@ product-fits : (r n b : ℕ) → r ≤ b → b ≤ 80 → n ≤ 80 → Fits w64 
 product-fits r n b h k c = record { fits = omega (arith, mul-le-mul_right n h, mul-le-mul_right n k) }
 
 -- what is handed out, read back
-meant : (rows n : ℕ) (m y b : List Float) (r : ℕ) → rows * n ≤ length m → r ≡ rank_of (decomposedOf rows n m) → y ≡ vectors_of rows n m ++ b
-    → meaningOf n y (Rank r) ≡ values (foundIn rows n m)
+meant : (rows n : ℕ) (m y b : List Float) (r : ℕ) → rows * n ≤ length m → r ≡ rank_of (decomposed_of rows n m) → y ≡ vectors_of rows n m ++ b
+    → meaning_of n y (Rank r) ≡ values (found_in rows n m)
 meant rows n m y b r fit e q =
-    let d : Qr = decomposedOf rows n m in
+    let d : Qr = decomposed_of rows n m in
     let f = found rows n m fit in
-    rw (e, q) (ap (λ l. values (record { rank = rank_of d; basis = l })) (basis-read n (reflectorsOf d) f.wide f.few b))
+    rw (e, q) (ap (λ l. values (record { rank = rank_of d; basis = l })) (basis-read n (reflectors_of d) f.wide f.few b))
 
 spans : (rows n : ℕ) (m w out w₁ z y : List Float) (r : ℕ) → rows ≤ 64 → n ≤ 80 → rows * n ≤ length m → rows * n ≤ length w → n * n ≤ length out
     → length w₁ ≡ length (take (rows * n) w) → z ≡ replicate (length (take (rows * n) (w₁ ++ drop (rows * n) w))) zero⁺
-    → (r ≡ rank_of (decomposedOf rows n m)) × (y ≡ vectors_of rows n m ++ drop ((n - r) * n) out)
+    → (r ≡ rank_of (decomposed_of rows n m)) × (y ≡ vectors_of rows n m ++ drop ((n - r) * n) out)
     → Spans rows n m w out (z ++ drop (rows * n) (w₁ ++ drop (rows * n) w)) y (Rank r)
 spans rows n m w out w₁ z y r h c a b o same zeros got = record {
   answer = carried-out rows n m w out _ _ _ _ h c a b o (ap Rank got.0);
@@ -43,7 +43,7 @@ spans rows n m w out w₁ z y r h c a b o same zeros got = record {
 }
 
 returns : tie.Need-returns
-returns c = record { answer = too_many_rows _ _ _ _ _ _ _ _ _ c.if1.true refl; meaning = too_many_rows _ _ _ _ _ _ _ _ _ c.if1.true refl; work = too_many_rows _ _ _ _ _ _ _ _ _ c.if1.true refl; output = too_many_rows _ _ _ _ _ _ _ _ _ c.if1.true refl }
+returns c = record { answer = too-many-rows _ _ _ _ _ _ _ _ _ c.if1.true refl; meaning = too-many-rows _ _ _ _ _ _ _ _ _ c.if1.true refl; work = too-many-rows _ _ _ _ _ _ _ _ _ c.if1.true refl; output = too-many-rows _ _ _ _ _ _ _ _ _ c.if1.true refl }
 
 returns-2 : tie.Need-returns-2
 returns-2 c = record { answer = too-many-columns _ _ _ _ _ _ _ _ _ c.before.if1.false c.if2.true refl; meaning = too-many-columns _ _ _ _ _ _ _ _ _ c.before.if1.false c.if2.true refl; work = too-many-columns _ _ _ _ _ _ _ _ _ c.before.if1.false c.if2.true refl; output = too-many-columns _ _ _ _ _ _ _ _ _ c.before.if1.false c.if2.true refl }

@@ -7,9 +7,9 @@ use native.Mathlib.Omega.{arith}
 use lib.ListN.{length, take, drop}
 use lib.Ieee.{Float}
 use Rattle.loops.proofs.Parts.{front}
-use Rattle.nullspace.specs.Steps.{reflectorsOf, rank_of}
-use Rattle.nullspace.specs.Layout.{Decomposes, laidOut, laidBasis, unitRows}
-use Rattle.nullspace.specs.Promise.{decomposedOf, vectors_of}
+use Rattle.nullspace.specs.Steps.{reflectors_of, rank_of}
+use Rattle.nullspace.specs.Layout.{Decomposes, laid_out, laid_basis, unit_rows}
+use Rattle.nullspace.specs.Promise.{decomposed_of, vectors_of}
 use Rattle.nullspace.proofs.Laid.{Found, found, basis-laid}
 use borrow.Author.Rules.{rules}
 use Rattle.nullspace.proofs.span.Statement.{statement}
@@ -18,20 +18,20 @@ use Rattle.nullspace.proofs.span.Tie as tie
 kept_in : (r rows n l : ℕ) → r ≤ min n rows → l ≡ rows * n → r * n ≤ l
 kept_in r rows n l h e = let k : r ≤ rows = omega arith in omega (arith, mul-le-mul_right n k)
 
-module _ (rows n r : ℕ) (m w₁ w₂ : List Float) (fit : rows * n ≤ length m) (units : w₁ ≡ unitRows rows n m) (d : Decomposes rows n w₁ w₂ r) where
-  told : Decomposes rows n (unitRows rows n m) w₂ r
+module _ (rows n r : ℕ) (m w₁ w₂ : List Float) (fit : rows * n ≤ length m) (units : w₁ ≡ unit_rows rows n m) (d : Decomposes rows n w₁ w₂ r) where
+  told : Decomposes rows n (unit_rows rows n m) w₂ r
   told = rw units at d
 
-  abbrev here : Found n (laidOut rows n (unitRows rows n m)) (decomposedOf rows n m)
+  abbrev here : Found n (laid_out rows n (unit_rows rows n m)) (decomposed_of rows n m)
   here = found rows n m fit
 
-  rank_is : r ≡ rank_of (decomposedOf rows n m)
+  rank_is : r ≡ rank_of (decomposed_of rows n m)
   rank_is = told.rank ∙ here.rank
 
-  basis-is : laidBasis n r (take (r * n) w₂) ≡ vectors_of rows n m
-  basis-is = ap₂ (laidBasis n) rank_is (told.reflectors ∙ here.reflectors) ∙ basis-laid n (reflectorsOf (decomposedOf rows n m)) here.wide here.few
+  basis-is : laid_basis n r (take (r * n) w₂) ≡ vectors_of rows n m
+  basis-is = ap₂ (laid_basis n) rank_is (told.reflectors ∙ here.reflectors) ∙ basis-laid n (reflectors_of (decomposed_of rows n m)) here.wide here.few
 
-  spans : (out y : List Float) → y ≡ laidBasis n r (take (r * n) w₂) ++ drop ((n - r) * n) out → y ≡ vectors_of rows n m ++ drop ((n - r) * n) out
+  spans : (out y : List Float) → y ≡ laid_basis n r (take (r * n) w₂) ++ drop ((n - r) * n) out → y ≡ vectors_of rows n m ++ drop ((n - r) * n) out
   spans out y e = e ∙ ap (λ l. l ++ drop ((n - r) * n) out) basis-is
 
 mul-kept : tie.Need-overflow-mul-kept

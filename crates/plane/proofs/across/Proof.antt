@@ -1,11 +1,11 @@
 -- Assumes nothing.
 use borrow.Author.Rules.{rules}
-use Rattle.plane.specs.Vectors.{acrossOf}
+use Rattle.plane.specs.Vectors.{across_of}
 use Rattle.plane.proofs.across.Statement.{statement}
 use Rattle.plane.proofs.across.Tie as tie
 
 returns : tie.Need-returns
-unfolding acrossOf
+unfolding across_of
 returns c = rw c.before.before.before.before.dot.ensures
 
 pub across-spec : {M : Type 1} → statement M

@@ -1,11 +1,11 @@
 -- Assumes nothing.
 use borrow.Author.Rules.{rules}
-use Rattle.plane.specs.Vectors.{unitFromOf}
+use Rattle.plane.specs.Vectors.{unit_from_of}
 use Rattle.plane.proofs.unit_from.Statement.{statement}
 use Rattle.plane.proofs.unit_from.Tie as tie
 
 returns : tie.Need-returns
-unfolding unitFromOf
+unfolding unit_from_of
 returns c = rw (c.before.before.norm.ensures, c.before.before.before.sub.ensures)
 
 pub unit-from-spec : {M : Type 1} → statement M

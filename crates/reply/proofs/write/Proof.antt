@@ -1,9 +1,9 @@
 -- Where there may be no room, the first pass counts and the second writes. Assumes nothing.
 use native.Mathlib.Omega.{arith}
 use borrow.Author.Rules.{rules}
-use Rattle.reply.specs.Reply.{replyOf}
+use Rattle.reply.specs.Reply.{reply_of}
 use Rattle.reply.proofs.Short.{short}
-use Rattle.reply.proofs.Written.{length-counted, room, no_room}
+use Rattle.reply.proofs.Written.{length-counted, room, no-room}
 use Rattle.reply.proofs.write.Statement.{statement}
 use Rattle.reply.proofs.write.Tie as tie
 
@@ -11,7 +11,7 @@ returns : tie.Need-returns
 returns c =
     let w = c.before.before in
     let a = w.before.before.before.before.before.args in
-    let bs = replyOf a.a a.out.now a.points a.measures in
+    let bs = reply_of a.a a.out.now a.points a.measures in
     let fits = short a.a a.out.now a.points a.measures in
     let n = length-counted bs _ _ _ fits w.whole-reply.ensures in
     record { needed = n; written = room bs _ _ _ _ fits n (omega (arith, w.before.before.if1.true, fits, n)) w.whole-reply.ensures }
@@ -21,7 +21,7 @@ returns-2 c =
     let w = c.before.before in
     let f = w.before.before.before.before in
     let a = f.before.before.before.before.before.args in
-    let bs = replyOf a.a a.out.now a.points a.measures in
+    let bs = reply_of a.a a.out.now a.points a.measures in
     let fits = short a.a a.out.now a.points a.measures in
     let n = length-counted bs _ _ _ fits f.whole-reply2.ensures in
     record { needed = n; written = room bs _ _ _ _ fits n w.before.before.if2.true w.whole-reply3.ensures }
@@ -30,9 +30,9 @@ returns-3 : tie.Need-returns-3
 returns-3 c =
     let f = c.before.before in
     let a = f.before.before.before.before.before.args in
-    let bs = replyOf a.a a.out.now a.points a.measures in
+    let bs = reply_of a.a a.out.now a.points a.measures in
     let n = length-counted bs _ _ _ (short a.a a.out.now a.points a.measures) f.whole-reply2.ensures in
-    record { needed = n; written = no_room bs _ _ n c.if2.false }
+    record { needed = n; written = no-room bs _ _ n c.if2.false }
 
 pub write_spec : {M : Type 1} → statement M
 write_spec =

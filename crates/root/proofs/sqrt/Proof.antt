@@ -6,7 +6,7 @@ use lib.Dec.{T}
 use lib.Ieee.{nan, binary64, div, fits, of_bits, to_bits}
 use lib.Ieee.Compare.{differs_from_itself}
 use borrow.Author.Rules.{rules}
-use Rattle.root.specs.Root.{rootBits, sqrtOf}
+use Rattle.root.specs.Root.{root_bits, sqrt_of}
 use Rattle.root.proofs.Normal.{count_low, normal-is}
 use Rattle.root.specs.Examples.{root-zero, root-minus-zero, root-infinite}
 use Rattle.root.proofs.Value.{own-positive, own-other, own-kept}
@@ -19,8 +19,8 @@ nan_is : div binary64 (of_bits binary64 0) (of_bits binary64 0) ≡ nan
 unfolding div of_bits
 nan_is = refl
 
-root-nan : sqrtOf nan ≡ nan
-unfolding sqrtOf
+root-nan : sqrt_of nan ≡ nan
+unfolding sqrt_of
 root-nan = refl
 
 -- what owning an `f64` tells: the format holds it
@@ -28,7 +28,7 @@ held : (c : tie.Start) → T (fits binary64 c.args.x)
 held c = subst T (sym c.well-formed.0.1) tt
 
 returns : tie.Need-returns
-returns c = nan_is ∙ sym (ap sqrtOf (differs_from_itself c.before.args.x (subst T (sym c.if1.true) tt)) ∙ root-nan)
+returns c = nan_is ∙ sym (ap sqrt_of (differs_from_itself c.before.args.x (subst T (sym c.if1.true) tt)) ∙ root-nan)
 
 float-to-bits-b : tie.Need-float-to-bits-b
 float-to-bits-b c = equals_itself c.before.args.x c.if1.false
@@ -43,7 +43,7 @@ returns-3 c =
     let s = c.before.before.before.before in
     let b = to_bits binary64 s.args.x in
     c.tiny.ensures
-    ∙ ap (λ (n : ℕ). of_bits binary64 (rootBits (n * 2 ^ 1076))) (sym (count_low b (omega arith)))
+    ∙ ap (λ (n : ℕ). of_bits binary64 (root_bits (n * 2 ^ 1076))) (sym (count_low b (omega arith)))
     ∙ sym (own-positive s.args.x (held s) (omega arith) (omega arith))
 
 returns-4 : tie.Need-returns-4
@@ -51,7 +51,7 @@ returns-4 c =
     let s = c.before.before.before.before in
     let b = to_bits binary64 s.args.x in
     c.root.ensures
-    ∙ ap (λ (n : ℕ). of_bits binary64 (rootBits n)) (normal-is b (omega arith))
+    ∙ ap (λ (n : ℕ). of_bits binary64 (root_bits n)) (normal-is b (omega arith))
     ∙ sym (own-positive s.args.x (held s) (omega arith) (omega arith))
 
 returns-5 : tie.Need-returns-5

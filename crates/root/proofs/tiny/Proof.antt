@@ -5,7 +5,7 @@ use native.Mathlib.Nat.{mod-eq_of_lt}
 use native.Mathlib.Omega.{arith}
 use lib.Count.{count_leading_zeros}
 use lib.Ieee.{Float, binary64, of_bits}
-use Rattle.root.specs.Root.{rootBits}
+use Rattle.root.specs.Root.{root_bits}
 use Rattle.root.proofs.Normal.{raised, zeros-bounds, raised-bounds, raised_is}
 use Rattle.root.proofs.tiny.Statement.{statement}
 use Rattle.root.proofs.tiny.Tie as tie
@@ -35,7 +35,7 @@ root-requires c κs = omega (arith, zeros c, whole c, raised-bounds c.args.b c.r
 returns : tie.Need-returns
 returns c =
     let b = c.before.args.b in
-    let root : ℕ → Float = λ y. of_bits binary64 (rootBits y) in
+    let root : ℕ → Float = λ y. of_bits binary64 (root_bits y) in
     c.root.ensures
     ∙ ap (λ (m : ℕ). root (m * 2 ^ (1033 - count_leading_zeros 64 b + 54))) (whole c.before)
     ∙ ap root (raised_is b c.before.requires.0 c.before.requires.1)

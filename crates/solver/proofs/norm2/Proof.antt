@@ -5,23 +5,23 @@ use mathlib.Core.Path.{◌≡◌, refl, ◌∙◌}
 use lib.ListN.{length, drop}
 use Rattle.loops.specs.Turns.{fold}
 use Rattle.loops.proofs.Turning.{fold_next, fold_done}
-use Rattle.solver.specs.Sums.{addSquare, norm2Of}
+use Rattle.solver.specs.Sums.{add_square, norm2_of}
 use Rattle.solver.proofs.norm2.Statement.{statement}
 use Rattle.solver.proofs.norm2.Tie as tie
 
 abbrev invariant-loop : tie.invariant-loop
-invariant-loop v s₀ i₀ i-end s i = (i-end ≡ length v) × (i ≤ i-end) × (fold addSquare s (drop i v) ≡ norm2Of v)
+invariant-loop v s₀ i₀ i-end s i = (i-end ≡ length v) × (i ≤ i-end) × (fold add_square s (drop i v) ≡ norm2_of v)
 
 abbrev decreases-loop : tie.decreases-loop
 decreases-loop v s₀ i₀ i-end s i = i-end - i
 
 loop-holds : tie.Need-loop-init invariant-loop decreases-loop
-unfolding norm2Of neg of_bits
+unfolding norm2_of neg of_bits
 loop-holds c = (refl, search rules, refl)
 
 loop-again : tie.Need-loop-preserved invariant-loop decreases-loop
-unfolding addSquare
-loop-again c = (search rules, search rules, search (fold_next nan addSquare, rules))
+unfolding add_square
+loop-again c = (search rules, search rules, search (fold_next nan add_square, rules))
 
 returns : tie.Need-returns invariant-loop decreases-loop
 returns c = c.handed_out.ensures ∙ search (fold_done, rules)

@@ -16,9 +16,9 @@ use Rattle.floats.specs.Ops.{zero⁺}
 use Rattle.loops.specs.Numbers.{values}
 use Rattle.loops.proofs.Parts.{front, still-fits, refilled}
 use Rattle.solver.specs.declared.Elimination.{Elimination}
-use Rattle.solver.specs.Promise.{Solves, Finds, isSome, meaningOf, found, meant, orZeros, solved}
-use Rattle.solver.specs.Reasons.{Reasoned, some, noPivot, notFinite}
-use Rattle.solver.proofs.Checking.{too_many, short-matrix, short-right, carried-out}
+use Rattle.solver.specs.Promise.{Solves, Finds, is_some, meaning_of, found, meant, or_zeros, solved}
+use Rattle.solver.specs.Reasons.{Reasoned, some, no_pivot, not_finite}
+use Rattle.solver.proofs.Checking.{too-many, short-matrix, short-right, carried-out}
 use borrow.Author.Rules.{rules}
 use Rattle.solver.proofs.solve_dense.Statement.{statement}
 use Rattle.solver.proofs.solve_dense.Tie as tie
@@ -27,15 +27,15 @@ square-fits : (n : ℕ) → n ≤ 80 → Fits w64 (n * n)
 square-fits n h = record { fits = omega (arith, mul-le-mul_right n h) }
 
 module _ (n : ℕ) where
-  none-meant : (S : Reasoned (List Float)) (b' : List Float) → isSome (found S) ≡ false → meaningOf n b' (found S) ≡ meant S
+  none-meant : (S : Reasoned (List Float)) (b' : List Float) → is_some (found S) ≡ false → meaning_of n b' (found S) ≡ meant S
   none-meant (some y) b' t = cc
-  none-meant (noPivot c) b' t = refl
-  none-meant notFinite b' t = refl
+  none-meant (no_pivot c) b' t = refl
+  none-meant not_finite b' t = refl
 
-  none-zeros : (S : Reasoned (List Float)) → isSome (found S) ≡ false → replicate n zero⁺ ≡ orZeros n S
+  none-zeros : (S : Reasoned (List Float)) → is_some (found S) ≡ false → replicate n zero⁺ ≡ or_zeros n S
   none-zeros (some y) t = cc
-  none-zeros (noPivot c) t = refl
-  none-zeros notFinite t = refl
+  none-zeros (no_pivot c) t = refl
+  none-zeros not_finite t = refl
 
 module _ (n : ℕ) (a b : List Float) (h : n ≤ 80) (s : leb (n * n) (length a) ≡ true) (t' : n ≤ length b) (a₁ y z : List Float)
     (same : length a₁ ≡ length (take (n * n) a)) (kept : length y ≡ length (take n b))
@@ -44,25 +44,25 @@ module _ (n : ℕ) (a b : List Float) (h : n ≤ 80) (s : leb (n * n) (length a)
   matrix-cleared = refilled zero⁺ (n * n) a a₁ z (leb-true (n * n) (length a) s) same zeros
 
   module _ (e : Elimination) (f : Finds n (take (n * n) a) (take n b) y e) where
-    with-answer : isSome e ≡ true → Solves n a b (z ++ drop (n * n) (a₁ ++ drop (n * n) a)) (y ++ drop n b) e
+    with-answer : is_some e ≡ true → Solves n a b (z ++ drop (n * n) (a₁ ++ drop (n * n) a)) (y ++ drop n b) e
     with-answer t = let q : some y ≡ solved n a b = f.right t in record {
       answer = carried-out n a b _ _ _ _ h s t' f.answer;
-      meaning = carried-out n a b _ _ _ _ h s t' (ap (λ r. meaningOf n (y ++ drop n b) r) (f.answer ∙ ap found (sym q)) ∙ ap values (take_at y (drop n b) n (kept ∙ length-take-le n b t')) ∙ ap meant q);
+      meaning = carried-out n a b _ _ _ _ h s t' (ap (λ r. meaning_of n (y ++ drop n b) r) (f.answer ∙ ap found (sym q)) ∙ ap values (take_at y (drop n b) n (kept ∙ length-take-le n b t')) ∙ ap meant q);
       matrix = carried-out n a b _ _ _ _ h s t' matrix-cleared;
-      right = carried-out n a b _ _ _ _ h s t' (ap (λ x. orZeros n x ++ drop n b) q);
+      right = carried-out n a b _ _ _ _ h s t' (ap (λ x. or_zeros n x ++ drop n b) q);
     }
 
-    with_none : (x : List Float) → isSome e ≡ false → x ≡ replicate (length (take n (y ++ drop n b))) zero⁺
+    with_none : (x : List Float) → is_some e ≡ false → x ≡ replicate (length (take n (y ++ drop n b))) zero⁺
         → Solves n a b (z ++ drop (n * n) (a₁ ++ drop (n * n) a)) (x ++ drop n (y ++ drop n b)) e
-    with_none x t q = let none : isSome (found (solved n a b)) ≡ false = rw f.answer at t in record {
+    with_none x t q = let none : is_some (found (solved n a b)) ≡ false = rw f.answer at t in record {
       answer = carried-out n a b _ _ _ _ h s t' f.answer;
-      meaning = carried-out n a b _ _ _ _ h s t' (ap (λ r. meaningOf n (x ++ drop n (y ++ drop n b)) r) f.answer ∙ none-meant n (solved n a b) _ none);
+      meaning = carried-out n a b _ _ _ _ h s t' (ap (λ r. meaning_of n (x ++ drop n (y ++ drop n b)) r) f.answer ∙ none-meant n (solved n a b) _ none);
       matrix = carried-out n a b _ _ _ _ h s t' matrix-cleared;
       right = carried-out n a b _ _ _ _ h s t' (refilled zero⁺ n b y x t' kept q ∙ ap (λ x. x ++ drop n b) (none-zeros n (solved n a b) none));
     }
 
 returns : tie.Need-returns
-returns c = record { answer = too_many _ _ _ _ _ _ _ c.if1.true refl; meaning = too_many _ _ _ _ _ _ _ c.if1.true refl; matrix = too_many _ _ _ _ _ _ _ c.if1.true refl; right = too_many _ _ _ _ _ _ _ c.if1.true refl }
+returns c = record { answer = too-many _ _ _ _ _ _ _ c.if1.true refl; meaning = too-many _ _ _ _ _ _ _ c.if1.true refl; matrix = too-many _ _ _ _ _ _ _ c.if1.true refl; right = too-many _ _ _ _ _ _ _ c.if1.true refl }
 
 returns-2 : tie.Need-returns-2
 returns-2 c = record { answer = short-matrix _ _ _ _ _ _ _ c.before.before.if1.false (sym c.before.holds.ensures ∙ not-true _ c.if2.true) refl; meaning = short-matrix _ _ _ _ _ _ _ c.before.before.if1.false (sym c.before.holds.ensures ∙ not-true _ c.if2.true) refl; matrix = short-matrix _ _ _ _ _ _ _ c.before.before.if1.false (sym c.before.holds.ensures ∙ not-true _ c.if2.true) refl; right = short-matrix _ _ _ _ _ _ _ c.before.before.if1.false (sym c.before.holds.ensures ∙ not-true _ c.if2.true) refl }

@@ -8,35 +8,35 @@ use lib.Ieee.{Float}
 use lib.Ieee.Scale.{finite}
 use Rattle.loops.specs.Turns.{every}
 use Rattle.solver.specs.declared.Elimination.TheVariants.{Some, NoPivot, NotFinite}
-use Rattle.solver.specs.Inside.{columnsIn}
-use Rattle.solver.specs.Lesser.{lesserEliminated}
+use Rattle.solver.specs.Inside.{columns_in}
+use Rattle.solver.specs.Lesser.{lesser_eliminated}
 use Rattle.solver.specs.Promise.{found, Finds}
-use Rattle.solver.specs.Reasons.{some, noPivot, notFinite, onSome, ifFinite, reasonedOf}
-use Rattle.solver.specs.Steps.{sys, backOf}
+use Rattle.solver.specs.Reasons.{some, no_pivot, not_finite, on_some, if_finite, reasoned_of}
+use Rattle.solver.specs.Steps.{sys, back_of}
 use Rattle.solver.proofs.Lesser.{same-elimination}
 use Rattle.solver.proofs.Reasons.{columns-some, columns-none}
 use borrow.Author.Rules.{rules}
 use Rattle.solver.proofs.solve_square.Statement.{statement}
 use Rattle.solver.proofs.solve_square.Tie as tie
 
-module _ (n : ℕ) (a b a₁ b₁ : List Float) (c : ℕ) (done : columnsIn c (sys a₁ b₁) ≡ lesserEliminated n (sys a b)) where
-  from-here : onSome (columnsIn c (sys a₁ b₁)) (λ s. ifFinite (backOf n s)) ≡ reasonedOf n a b
+module _ (n : ℕ) (a b a₁ b₁ : List Float) (c : ℕ) (done : columns_in c (sys a₁ b₁) ≡ lesser_eliminated n (sys a b)) where
+  from-here : on_some (columns_in c (sys a₁ b₁)) (λ s. if_finite (back_of n s)) ≡ reasoned_of n a b
   from-here = rw done (same-elimination n a b)
 
   no-pivot : (y : List Float) → 0 < c → Finds n a b y (NoPivot c)
-  no-pivot y h = let e : noPivot c ≡ reasonedOf n a b = rw (columns-none c (sys a₁ b₁) h) at from-here in record { answer = ap found e; right = λ t. cc }
+  no-pivot y h = let e : no_pivot c ≡ reasoned_of n a b = rw (columns-none c (sys a₁ b₁) h) at from-here in record { answer = ap found e; right = λ t. cc }
 
-  module _ (y : List Float) (h : c ≤ 0) (back : y ≡ backOf n (sys a₁ b₁)) (t : Bool) (test : t ≡ every finite y) where
-    looked-through : ifFinite y ≡ reasonedOf n a b
-    looked-through = ap ifFinite back ∙ rw (columns-some c (sys a₁ b₁) h) at from-here
+  module _ (y : List Float) (h : c ≤ 0) (back : y ≡ back_of n (sys a₁ b₁)) (t : Bool) (test : t ≡ every finite y) where
+    looked-through : if_finite y ≡ reasoned_of n a b
+    looked-through = ap if_finite back ∙ rw (columns-some c (sys a₁ b₁) h) at from-here
 
     all-finite : t ≡ true → Finds n a b y Some
-    unfolding ifFinite
-    all-finite q = let e : some y ≡ reasonedOf n a b = rw (sym test ∙ q) at looked-through in record { answer = ap found e; right = λ t. e }
+    unfolding if_finite
+    all-finite q = let e : some y ≡ reasoned_of n a b = rw (sym test ∙ q) at looked-through in record { answer = ap found e; right = λ t. e }
 
-    not_finite : t ≡ false → Finds n a b y NotFinite
-    unfolding ifFinite
-    not_finite q = let e : notFinite ≡ reasonedOf n a b = rw (sym test ∙ q) at looked-through in record { answer = ap found e; right = λ t. cc }
+    not-finite : t ≡ false → Finds n a b y NotFinite
+    unfolding if_finite
+    not-finite q = let e : not_finite ≡ reasoned_of n a b = rw (sym test ∙ q) at looked-through in record { answer = ap found e; right = λ t. cc }
 
 returns : tie.Need-returns
 returns c = no-pivot _ _ _ _ _ _ c.before.before.before.before.before.eliminate.ensures _ c.if1.true
@@ -45,7 +45,7 @@ returns-2 : tie.Need-returns-2
 returns-2 c = all-finite _ _ _ _ _ _ c.before.before.before.before.before.before.before.before.before.before.before.before.before.eliminate.ensures _ c.before.before.before.before.before.before.before.before.if1.false c.before.before.before.before.before.substitute.ensures _ c.before.all-finite.ensures c.if2.true
 
 returns-3 : tie.Need-returns-3
-returns-3 c = not_finite _ _ _ _ _ _ c.before.before.before.before.before.before.before.before.before.before.before.before.before.eliminate.ensures _ c.before.before.before.before.before.before.before.before.if1.false c.before.before.before.before.before.substitute.ensures _ c.before.all-finite.ensures c.if2.false
+returns-3 c = not-finite _ _ _ _ _ _ c.before.before.before.before.before.before.before.before.before.before.before.before.before.eliminate.ensures _ c.before.before.before.before.before.before.before.before.if1.false c.before.before.before.before.before.substitute.ensures _ c.before.all-finite.ensures c.if2.false
 
 pub solve-square-spec : {M : Type 1} → statement M
 solve-square-spec =

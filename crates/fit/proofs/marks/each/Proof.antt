@@ -5,9 +5,9 @@ use native.Mathlib.Omega.{arith}
 use borrow.Author.Rules.{rules}
 use lib.ListN.{length, drop}
 use Rattle.loops.specs.Turns.{fold}
-use Rattle.members.specs.Lists.{numbersOf}
-use Rattle.fit.specs.Fits.{mark, suspectsOf}
-use Rattle.fit.specs.Promise.{jacobianLeft, productLeft, copyLeft}
+use Rattle.members.specs.Lists.{numbers_of}
+use Rattle.fit.specs.Fits.{mark, suspects_of}
+use Rattle.fit.specs.Promise.{jacobian_left, product_left, copy_left}
 use Rattle.fit.proofs.MarksLaws.{still-long, marked, turn-next, turns-over}
 use Rattle.fit.proofs.marks.each.Statement.{statement}
 use Rattle.fit.proofs.marks.each.Tie as tie
@@ -19,16 +19,16 @@ invariant-loop b f p₀ q₀ r₀ items n marks₀ i₀ p q r marks i =
     × (length q ≡ length q₀)
     × (length r ≡ length r₀)
     × (length marks ≡ 40)
-    × (fold (mark b f) marks (drop i (numbersOf f.equations.0)) ≡ suspectsOf b f)
-    × (fold (jacobianLeft b f) p (drop i (numbersOf f.equations.0)) ≡ fold (jacobianLeft b f) p₀ (numbersOf f.equations.0))
-    × (fold (productLeft b f) q (drop i (numbersOf f.equations.0)) ≡ fold (productLeft b f) q₀ (numbersOf f.equations.0))
-    × (fold (copyLeft b f) r (drop i (numbersOf f.equations.0)) ≡ fold (copyLeft b f) r₀ (numbersOf f.equations.0))
+    × (fold (mark b f) marks (drop i (numbers_of f.equations.0)) ≡ suspects_of b f)
+    × (fold (jacobian_left b f) p (drop i (numbers_of f.equations.0)) ≡ fold (jacobian_left b f) p₀ (numbers_of f.equations.0))
+    × (fold (product_left b f) q (drop i (numbers_of f.equations.0)) ≡ fold (product_left b f) q₀ (numbers_of f.equations.0))
+    × (fold (copy_left b f) r (drop i (numbers_of f.equations.0)) ≡ fold (copy_left b f) r₀ (numbers_of f.equations.0))
 
 abbrev decreases-loop : tie.decreases-loop
 decreases-loop b f p₀ q₀ r₀ items n marks₀ i₀ p q r marks i = n - i
 
 loop-holds : tie.Need-loop-init invariant-loop decreases-loop
-unfolding suspectsOf
+unfolding suspects_of
 loop-holds c = (omega arith, refl, refl, refl, refl, refl, refl, refl, refl)
 
 mul-k : tie.Need-overflow-mul-k invariant-loop decreases-loop
@@ -76,9 +76,9 @@ loop-again c =
       t.suspect.auto.1.1.1.1.1.0 ∙ l.loop.invariant.3,
       u.put.auto.0 ∙ l.loop.invariant.4,
       turn-next s.args.f.equations.0 m.numbers.result i m.numbers.ensures.0 (mark s.args.b s.args.f) l.loop.marks u.put.new.0 _ h (marked s.args.b s.args.f l.loop.marks u.put.new.0 _ t.suspect.result u.put.ensures t.suspect.ensures.answer) l.loop.invariant.5,
-      turn-next s.args.f.equations.0 m.numbers.result i m.numbers.ensures.0 (jacobianLeft s.args.b s.args.f) l.loop.p t.suspect.new.1.1.1.0 _ h t.suspect.ensures.jacobian l.loop.invariant.6,
-      turn-next s.args.f.equations.0 m.numbers.result i m.numbers.ensures.0 (productLeft s.args.b s.args.f) l.loop.q t.suspect.new.1.1.1.1.0 _ h t.suspect.ensures.product l.loop.invariant.7,
-      turn-next s.args.f.equations.0 m.numbers.result i m.numbers.ensures.0 (copyLeft s.args.b s.args.f) l.loop.r t.suspect.new.1.1.1.1.1.0 _ h t.suspect.ensures.copy l.loop.invariant.8,
+      turn-next s.args.f.equations.0 m.numbers.result i m.numbers.ensures.0 (jacobian_left s.args.b s.args.f) l.loop.p t.suspect.new.1.1.1.0 _ h t.suspect.ensures.jacobian l.loop.invariant.6,
+      turn-next s.args.f.equations.0 m.numbers.result i m.numbers.ensures.0 (product_left s.args.b s.args.f) l.loop.q t.suspect.new.1.1.1.1.0 _ h t.suspect.ensures.product l.loop.invariant.7,
+      turn-next s.args.f.equations.0 m.numbers.result i m.numbers.ensures.0 (copy_left s.args.b s.args.f) l.loop.r t.suspect.new.1.1.1.1.1.0 _ h t.suspect.ensures.copy l.loop.invariant.8,
     )
 
 same_length : tie.Need-same-length invariant-loop decreases-loop
@@ -97,9 +97,9 @@ returns c =
     let s = m.before.before.before.before.before.before in
     record {
       answer = turns-over s.args.f.equations.0 m.numbers.result l.loop.i m.numbers.ensures.0 (mark s.args.b s.args.f) l.loop.marks _ c.loop-test.false l.loop.invariant.5;
-      jacobian = turns-over s.args.f.equations.0 m.numbers.result l.loop.i m.numbers.ensures.0 (jacobianLeft s.args.b s.args.f) l.loop.p _ c.loop-test.false l.loop.invariant.6;
-      product = turns-over s.args.f.equations.0 m.numbers.result l.loop.i m.numbers.ensures.0 (productLeft s.args.b s.args.f) l.loop.q _ c.loop-test.false l.loop.invariant.7;
-      copy = turns-over s.args.f.equations.0 m.numbers.result l.loop.i m.numbers.ensures.0 (copyLeft s.args.b s.args.f) l.loop.r _ c.loop-test.false l.loop.invariant.8;
+      jacobian = turns-over s.args.f.equations.0 m.numbers.result l.loop.i m.numbers.ensures.0 (jacobian_left s.args.b s.args.f) l.loop.p _ c.loop-test.false l.loop.invariant.6;
+      product = turns-over s.args.f.equations.0 m.numbers.result l.loop.i m.numbers.ensures.0 (product_left s.args.b s.args.f) l.loop.q _ c.loop-test.false l.loop.invariant.7;
+      copy = turns-over s.args.f.equations.0 m.numbers.result l.loop.i m.numbers.ensures.0 (copy_left s.args.b s.args.f) l.loop.r _ c.loop-test.false l.loop.invariant.8;
     }
 
 pub each_spec : {M : Type 1} → statement M

@@ -6,17 +6,17 @@ use borrow.Author.Rules.{rules}
 use lib.ListN.{length, take, drop, length-take, length-map}
 use Rattle.loops.proofs.Parts.{any-default}
 use Rattle.loops.specs.Turns.{fold}
-use Rattle.rounds.specs.Problem.{moreRows}
-use Rattle.sketch.specs.Blank.{blankActive}
+use Rattle.rounds.specs.Problem.{more_rows}
+use Rattle.sketch.specs.Blank.{blank_active}
 use Rattle.sketch.proofs.AtMostTwo.{two-at-most}
 use Rattle.sketch.specs.declared.Active.{Active}
-use Rattle.fit.proofs.RanksLaws.{more_rows, no_row, counted}
+use Rattle.fit.proofs.RanksLaws.{more-rows, no_row, counted}
 use Rattle.fit.proofs.ranks.row_count.Statement.{statement}
 use Rattle.fit.proofs.ranks.row_count.Tie as tie
 
 abbrev invariant-loop : tie.invariant-loop
 invariant-loop items equations n rows₀ i₀ rows i =
-    (i ≤ n) × (rows ≤ 2 * i) × (fold (moreRows equations) rows (drop i (take n items)) ≡ fold (moreRows equations) 0 (take n items))
+    (i ≤ n) × (rows ≤ 2 * i) × (fold (more_rows equations) rows (drop i (take n items)) ≡ fold (more_rows equations) 0 (take n items))
 
 abbrev decreases-loop : tie.decreases-loop
 decreases-loop items equations n rows₀ i₀ rows i = n - i
@@ -82,8 +82,8 @@ loop-again-2 c =
     let few : c.rows.result ≤ 2 = rw c.rows.ensures (two-at-most _) in (
       omega (arith, c.before.before.before.loop-test.true),
       omega (arith, few, l.loop.invariant.1),
-      more_rows b.equations own.items m.numbers.result l.loop.i l.loop.rows room c.before.before.before.loop-test.true _ l.loop.invariant.2 c.rows.result _
-          c.rows.ensures (ap (λ (e : Active). e.equation) (any-default b.equations _ _ blankActive (omega (arith, c.before.before.if1.false, sized)))),
+      more-rows b.equations own.items m.numbers.result l.loop.i l.loop.rows room c.before.before.before.loop-test.true _ l.loop.invariant.2 c.rows.result _
+          c.rows.ensures (ap (λ (e : Active). e.equation) (any-default b.equations _ _ blank_active (omega (arith, c.before.before.if1.false, sized)))),
     )
 
 returns : tie.Need-returns invariant-loop decreases-loop

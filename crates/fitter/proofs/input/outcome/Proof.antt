@@ -10,16 +10,16 @@ use mir.Facts.{to_z-of_z}
 use borrow.Author.Rules.{rules}
 use borrow.Author.Tests.{ltb-true}
 use Rattle.io.specs.Counts.{clamp_len}
-use Rattle.fitter.specs.Taken.{outcomeOf}
+use Rattle.fitter.specs.Taken.{outcome_of}
 use Rattle.fitter.specs.declared.input.Input.TheVariants.{Ended, Failed}
 use Rattle.fitter.proofs.input.outcome.Statement.{statement}
 use Rattle.fitter.proofs.input.outcome.Tie as tie
 
-failed : (got : ℤ) (n : ℕ) → lt_z got (pos 0) ≡ true → Failed ≡ outcomeOf got n
+failed : (got : ℤ) (n : ℕ) → lt_z got (pos 0) ≡ true → Failed ≡ outcome_of got n
 failed (pos k) n h = let l = ltb-true k 0 h in absurd (omega arith)
 failed (negsuc k) n h = refl
 
-ended : (got : ℤ) (n r : ℕ) → lt_z got (pos 0) ≡ false → r ≡ clamp_len got n → Ended r ≡ outcomeOf got n
+ended : (got : ℤ) (n r : ℕ) → lt_z got (pos 0) ≡ false → r ≡ clamp_len got n → Ended r ≡ outcome_of got n
 ended (pos k) n r h e = ap Ended e
 ended (negsuc k) n r h e = cc
 

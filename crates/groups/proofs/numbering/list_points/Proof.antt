@@ -6,8 +6,8 @@ use native.Mathlib.Omega.{arith}
 use borrow.Author.Rules.{rules}
 use lib.ListN.{length, get_or}
 use Rattle.loops.specs.Turns.{up_to}
-use Rattle.loops.proofs.Turning.{upTo-next, upTo-done}
-use Rattle.groups.specs.Listed.{listPoint, listPoints, point_of}
+use Rattle.loops.proofs.Turning.{up_to-next, up_to-done}
+use Rattle.groups.specs.Listed.{list_point, list_points, point_of}
 use Rattle.groups.specs.Parents.{Falls, Gives}
 use Rattle.groups.specs.declared.Listing.{Listing}
 use Rattle.groups.proofs.Laws.{point-falls, point-count, both}
@@ -20,20 +20,20 @@ invariant-loop p₀ tied s₀ q₀ p s q =
     × (Falls p)
     × (q ≤ 40)
     × (s.count ≤ q)
-    × (up_to 40 q (listPoint tied) (record { parents = p; answer = s }) ≡ listPoints tied p₀)
+    × (up_to 40 q (list_point tied) (record { parents = p; answer = s }) ≡ list_points tied p₀)
 
 abbrev decreases-loop : tie.decreases-loop
 decreases-loop p₀ tied s₀ q₀ p s q = 40 - q
 
 loop-holds : tie.Need-loop-init invariant-loop decreases-loop
-unfolding listPoints
+unfolding list_points
 loop-holds c = (search rules, c.before.before.requires, search rules, rw c.none-listed.ensures (search rules), rw c.none-listed.ensures refl)
 
 list-point-requires : tie.Need-list-point-requires invariant-loop decreases-loop
 list-point-requires c κs = (c.before.before.loop.invariant.1, search rules, search rules)
 
 loop-again : tie.Need-loop-preserved invariant-loop decreases-loop
-unfolding listPoint
+unfolding list_point
 loop-again c =
     let a = c.before.before.before.before.before.before.before.before.args in
     let l = c.before.before.before.before.before.loop in
@@ -44,14 +44,14 @@ loop-again c =
       point-falls b l.q g list-point.new.0 l.invariant.1 list-point.ensures.1,
       search rules,
       omega (arith, point-count b l.q g list-point.result list-point.ensures.0),
-      upTo-next (listPoint a.t2) 40 l.q g _ _ (search rules) (both (point_of b l.q g) _ _ list-point.ensures.1 list-point.ensures.0)
+      up_to-next (list_point a.t2) 40 l.q g _ _ (search rules) (both (point_of b l.q g) _ _ list-point.ensures.1 list-point.ensures.0)
           l.invariant.4,
     )
 
 returns : tie.Need-returns invariant-loop decreases-loop
 returns c =
     let l = c.before.loop in
-    let e = upTo-done (listPoint c.before.before.before.before.args.t2) 40 l.q (record { parents = l.p; answer = l.s }) _ (search rules) l.invariant.4 in
+    let e = up_to-done (list_point c.before.before.before.before.args.t2) 40 l.q (record { parents = l.p; answer = l.s }) _ (search rules) l.invariant.4 in
     (ap (λ g. g.answer) e, ap (λ g. g.parents) e)
 
 pub list-points-spec : {M : Type 1} → statement M

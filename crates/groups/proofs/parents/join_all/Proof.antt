@@ -8,33 +8,33 @@ use lib.ListN.{length, get_or, drop}
 use Rattle.loops.specs.Turns.{fold}
 use Rattle.loops.proofs.Turning.{fold_next, fold_done}
 use Rattle.sketch.specs.declared.Touched.{Touched}
-use Rattle.groups.specs.Parents.{Falls, joinTo, joinAll}
-use Rattle.groups.specs.Touches.{number_at, numbersOf}
+use Rattle.groups.specs.Parents.{Falls, join_to, join_all}
+use Rattle.groups.specs.Touches.{number_at, numbers_of}
 use Rattle.groups.proofs.Forest.{join-falls}
 use Rattle.groups.proofs.Laws.{number-at, numbers-length}
 use Rattle.groups.proofs.parents.join_all.Statement.{statement}
 use Rattle.groups.proofs.parents.join_all.Tie as tie
 
 turn-falls : (t : Touched) (j : ℕ) (ps ps' : List ℕ) → Falls ps
-    → ps' ≡ joinTo (number_at t 0) ps (number_at t j) → Falls ps'
+    → ps' ≡ join_to (number_at t 0) ps (number_at t j) → Falls ps'
 turn-falls t j ps ps' f h = rw h (join-falls (number_at t 0) ps (number_at t j) f)
 
-turn-fold : (t : Touched) (j : ℕ) (ps ps' R : List ℕ) → j < length (numbersOf t)
-    → ps' ≡ joinTo (number_at t 0) ps (number_at t j)
-    → fold (joinTo (get_or (numbersOf t) 0 0)) ps (drop j (numbersOf t)) ≡ R
-    → fold (joinTo (get_or (numbersOf t) 0 0)) ps' (drop (j + 1) (numbersOf t)) ≡ R
+turn-fold : (t : Touched) (j : ℕ) (ps ps' R : List ℕ) → j < length (numbers_of t)
+    → ps' ≡ join_to (number_at t 0) ps (number_at t j)
+    → fold (join_to (get_or (numbers_of t) 0 0)) ps (drop j (numbers_of t)) ≡ R
+    → fold (join_to (get_or (numbers_of t) 0 0)) ps' (drop (j + 1) (numbers_of t)) ≡ R
 turn-fold t j ps ps' R i h r =
-    fold_next 0 (joinTo (get_or (numbersOf t) 0 0)) (numbersOf t) j ps ps' R i
+    fold_next 0 (join_to (get_or (numbers_of t) 0 0)) (numbers_of t) j ps ps' R i
     (rw (number-at t 0 (omega arith), number-at t j i) h) r
 
 abbrev invariant-loop : tie.invariant-loop
-invariant-loop p₀ t n first j₀ p j = (length p ≡ length p₀) × (Falls p) × (fold (joinTo (get_or (numbersOf t) 0 0)) p (drop j (numbersOf t)) ≡ joinAll (numbersOf t) p₀)
+invariant-loop p₀ t n first j₀ p j = (length p ≡ length p₀) × (Falls p) × (fold (join_to (get_or (numbers_of t) 0 0)) p (drop j (numbers_of t)) ≡ join_all (numbers_of t) p₀)
 
 abbrev decreases-loop : tie.decreases-loop
 decreases-loop p₀ t n first j₀ p j = n - j
 
 loop-holds : tie.Need-loop-init invariant-loop decreases-loop
-unfolding joinAll
+unfolding join_all
 loop-holds c = (search rules, c.before.before.before.requires, refl)
 
 join-requires : tie.Need-join-requires invariant-loop decreases-loop
@@ -54,7 +54,7 @@ returns : tie.Need-returns invariant-loop decreases-loop
 returns c =
     let a = c.before.before.before.before.before.args in
     let l = c.before.loop in
-    fold_done (joinTo (get_or (numbersOf a.t2) 0 0)) (numbersOf a.t2) l.j l.p _ (omega (arith, numbers-length a.t2)) l.invariant.2
+    fold_done (join_to (get_or (numbers_of a.t2) 0 0)) (numbers_of a.t2) l.j l.p _ (omega (arith, numbers-length a.t2)) l.invariant.2
 
 pub join-all-spec : {M : Type 1} → statement M
 join-all-spec =

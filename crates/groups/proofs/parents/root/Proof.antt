@@ -2,13 +2,13 @@
 use mathlib.Core.Path.{◌≡◌, refl}
 use borrow.Author.Rules.{rules}
 use lib.ListN.{length}
-use Rattle.groups.specs.Parents.{up, Falls, rootOf}
+use Rattle.groups.specs.Parents.{up, Falls, root_of}
 use Rattle.groups.proofs.Laws.{ends-answer, ends-parents, turn-falls, turn-less, turn-root}
 use Rattle.groups.proofs.parents.root.Statement.{statement}
 use Rattle.groups.proofs.parents.root.Tie as tie
 
 abbrev invariant-loop : tie.invariant-loop
-invariant-loop p₀ x x₀ p x' = (length p ≡ length p₀) × (Falls p) × (rootOf p x' ≡ rootOf p₀ x)
+invariant-loop p₀ x x₀ p x' = (length p ≡ length p₀) × (Falls p) × (root_of p x' ≡ root_of p₀ x)
 
 abbrev decreases-loop : tie.decreases-loop
 decreases-loop p₀ x x₀ p x' = x'

@@ -6,7 +6,7 @@ use mathlib.Core.Path.{◌≡◌, sym, ◌∙◌}
 use borrow.Author.Rules.{rules}
 use lib.ListN.{length, length-map}
 use Rattle.groups.specs.Parents.{Falls, alone, joined}
-use Rattle.groups.specs.Touches.{touchesIn}
+use Rattle.groups.specs.Touches.{touches_in}
 use Rattle.groups.proofs.Filled.{row_is, row_count}
 use Rattle.groups.proofs.Forest.{alone-falls}
 use Rattle.groups.proofs.Laws.{joined-falls, points-falls, groups-are}
@@ -47,7 +47,7 @@ returns c =
     let list-equations = c.before.list-equations in
     let sized : length b.equations ≡ 40 = sym (length-map b.equations _) ∙ s.well-formed.0.1.1.1.1.1.1.1.1.0.1.0.1 in
     rw (← row_is b.equations b.equation_count _ sized smaller.ensures b.lines _ all-touched.ensures, ← row_count b.equations b.equation_count _ sized smaller.ensures)
-    (groups-are (touchesIn all-touched.result) smaller.result tie-equations.result each-alone.result join-equations.new.0
+    (groups-are (touches_in all-touched.result) smaller.result tie-equations.result each-alone.result join-equations.new.0
     list-points.new.0 list-equations.result list-points.result list-equations.ensures list-points.ensures.0
     list-points.ensures.1 tie-equations.ensures join-equations.ensures each-alone.ensures)
 

@@ -4,14 +4,14 @@ use mathlib.Core.Path.{◌≡◌}
 use native.Mathlib.Omega.{arith}
 use borrow.Author.Rules.{rules}
 use lib.ListN.{length, take}
-use Rattle.groups.specs.Touches.{touchedIn, touchesIn}
+use Rattle.groups.specs.Touches.{touched_in, touches_in}
 use Rattle.groups.proofs.Filled.{blank, touch-next, filled}
 use Rattle.groups.proofs.tied.all_touched.Statement.{statement}
 use Rattle.groups.proofs.tied.all_touched.Tie as tie
 
 abbrev invariant-loop : tie.invariant-loop
 invariant-loop n lines equations ts₀ k₀ ts k =
-    (k ≤ n) × (length ts ≡ 40) × ((j : ℕ) → touchesIn ts j ≡ touchedIn (take k equations) lines j)
+    (k ≤ n) × (length ts ≡ 40) × ((j : ℕ) → touches_in ts j ≡ touched_in (take k equations) lines j)
 
 abbrev decreases-loop : tie.decreases-loop
 decreases-loop n lines equations ts₀ k₀ ts k = n - k

@@ -9,24 +9,24 @@ use lib.ListN.{length, set, drop}
 use Rattle.loops.specs.Turns.{fold}
 use Rattle.loops.proofs.Turning.{fold_next, fold_done}
 use Rattle.sketch.specs.declared.Touched.{Touched}
-use Rattle.groups.specs.Tied.{tieTo, tieAll}
-use Rattle.groups.specs.Touches.{number_at, numbersOf}
+use Rattle.groups.specs.Tied.{tie_to, tie_all}
+use Rattle.groups.specs.Touches.{number_at, numbers_of}
 use Rattle.groups.proofs.Laws.{number-at, numbers-length}
 use Rattle.groups.proofs.tied.tie_all.Statement.{statement}
 use Rattle.groups.proofs.tied.tie_all.Tie as tie
 
-turn : (t : Touched) (j : ℕ) (s s' R : List Bool) → j < length (numbersOf t) → s' ≡ set s (number_at t j) true
-    → fold tieTo s (drop j (numbersOf t)) ≡ R → fold tieTo s' (drop (j + 1) (numbersOf t)) ≡ R
-turn t j s s' R h e r = fold_next 0 tieTo (numbersOf t) j s s' R h (unfold tieTo in rw (number-at t j h) e) r
+turn : (t : Touched) (j : ℕ) (s s' R : List Bool) → j < length (numbers_of t) → s' ≡ set s (number_at t j) true
+    → fold tie_to s (drop j (numbers_of t)) ≡ R → fold tie_to s' (drop (j + 1) (numbers_of t)) ≡ R
+turn t j s s' R h e r = fold_next 0 tie_to (numbers_of t) j s s' R h (unfold tie_to in rw (number-at t j h) e) r
 
 abbrev invariant-loop : tie.invariant-loop
-invariant-loop s₀ t n j₀ s j = (length s ≡ length s₀) × (j ≤ n) × (fold tieTo s (drop j (numbersOf t)) ≡ tieAll (numbersOf t) s₀)
+invariant-loop s₀ t n j₀ s j = (length s ≡ length s₀) × (j ≤ n) × (fold tie_to s (drop j (numbers_of t)) ≡ tie_all (numbers_of t) s₀)
 
 abbrev decreases-loop : tie.decreases-loop
 decreases-loop s₀ t n j₀ s j = n - j
 
 loop-holds : tie.Need-loop-init invariant-loop decreases-loop
-unfolding tieAll
+unfolding tie_all
 loop-holds c = (search rules, search rules, refl)
 
 loop-again : tie.Need-loop-preserved invariant-loop decreases-loop
@@ -39,7 +39,7 @@ returns : tie.Need-returns invariant-loop decreases-loop
 returns c =
     let a = c.before.before.before.before.args in
     let l = c.before.loop in
-    fold_done tieTo (numbersOf a.t2) l.j l.s _ (omega (arith, numbers-length a.t2)) l.invariant.2
+    fold_done tie_to (numbers_of a.t2) l.j l.s _ (omega (arith, numbers-length a.t2)) l.invariant.2
 
 pub tie-all-spec : {M : Type 1} → statement M
 tie-all-spec =

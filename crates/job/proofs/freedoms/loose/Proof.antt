@@ -3,8 +3,8 @@ use Prim.Native.Nat.{◌-◌, ◌≤◌}
 use mathlib.Core.Path.{◌≡◌, refl}
 use borrow.Author.Rules.{rules}
 use Rattle.loops.specs.Turns.{up_to}
-use Rattle.loops.proofs.Turning.{upTo-done}
-use Rattle.job.specs.Groups.{loose_at, looseOf}
+use Rattle.loops.proofs.Turning.{up_to-done}
+use Rattle.job.specs.Groups.{loose_at, loose_of}
 use lib.ListN.{length}
 use Rattle.job.proofs.Laying.{sized}
 use Rattle.job.proofs.Freeing.{loose-is, loose-turn, counted-few}
@@ -13,13 +13,13 @@ use Rattle.job.proofs.freedoms.loose.Tie as tie
 
 abbrev invariant-loop : tie.invariant-loop
 invariant-loop points of-point n k₀ p₀ k p =
-    (p ≤ n) × (k ≤ p) × (up_to n p (loose_at points of-point) k ≡ looseOf points of-point n)
+    (p ≤ n) × (k ≤ p) × (up_to n p (loose_at points of-point) k ≡ loose_of points of-point n)
 
 abbrev decreases-loop : tie.decreases-loop
 decreases-loop points of-point n k₀ p₀ k p = n - p
 
 loop-holds : tie.Need-loop-init invariant-loop decreases-loop
-unfolding looseOf
+unfolding loose_of
 loop-holds c = (search rules, search rules, refl)
 
 loop-again : tie.Need-loop-preserved invariant-loop decreases-loop
@@ -40,7 +40,7 @@ returns : tie.Need-returns invariant-loop decreases-loop
 returns c =
     let a = c.before.before.before.before.args in
     let l = c.before.loop in
-    (upTo-done (loose_at a.b.points a.gr.of_point) a.b.point_count l.p l.k _ (search rules) l.invariant.2, search rules)
+    (up_to-done (loose_at a.b.points a.gr.of_point) a.b.point_count l.p l.k _ (search rules) l.invariant.2, search rules)
 
 pub loose-spec : {M : Type 1} → statement M
 loose-spec =

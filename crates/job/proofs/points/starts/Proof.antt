@@ -5,14 +5,14 @@ use mathlib.Core.Path.{◌≡◌, refl}
 use borrow.Author.Rules.{rules}
 use lib.ListN.{length}
 use Rattle.loops.specs.Turns.{up_to}
-use Rattle.loops.proofs.Turning.{upTo-done}
-use Rattle.job.specs.Points.{drawnAt, drawn}
+use Rattle.loops.proofs.Turning.{up_to-done}
+use Rattle.job.specs.Points.{drawn_at, drawn}
 use Rattle.job.proofs.points.starts.Statement.{statement}
 use Rattle.job.proofs.points.starts.Tie as tie
 
 abbrev invariant-loop : tie.invariant-loop
 invariant-loop points out₀ p₀ out p =
-    (p ≤ 40) × (length out ≡ 80) × (up_to 40 p (drawnAt points) out ≡ drawn points)
+    (p ≤ 40) × (length out ≡ 80) × (up_to 40 p (drawn_at points) out ≡ drawn points)
 
 abbrev decreases-loop : tie.decreases-loop
 decreases-loop points out₀ p₀ out p = 40 - p
@@ -25,7 +25,7 @@ loop-again : tie.Need-loop-preserved invariant-loop decreases-loop
 loop-again c = (search rules, search rules, drawn-turn c.before.before.before.before.before.before.before.args.t1 _ c.before.before.before.before.before.before.loop.p c.before.before.before.before.before.before.loop.out _ _ (search rules) (search rules) c.before.put-point.ensures c.before.before.before.before.before.before.loop.invariant.2)
 
 returns : tie.Need-returns invariant-loop decreases-loop
-returns c = search (upTo-done, rules)
+returns c = search (up_to-done, rules)
 
 pub starts-spec : {M : Type 1} → statement M
 starts-spec =

@@ -4,7 +4,7 @@ use mathlib.Core.Path.{◌≡◌, refl}
 use native.Mathlib.Omega.{arith}
 use borrow.Author.Rules.{rules}
 use lib.ListN.{length}
-use Rattle.job.specs.Groups.{begin, groupsFrom}
+use Rattle.job.specs.Groups.{begin, groups_from}
 use Rattle.job.proofs.Stepping.{begin-free, groups-begin, groups-next, groups-stop, groups-done}
 use Rattle.job.proofs.sweeps.all_groups.Statement.{statement}
 use Rattle.job.proofs.sweeps.all_groups.Tie as tie
@@ -16,7 +16,7 @@ invariant-loop b gr n p₀ q₀ r₀ d₀ g₀ p q r d g =
     × (length q ≡ length q₀)
     × (length r ≡ length r₀)
     × (d.freedom ≤ 80 * g)
-    × (groupsFrom b gr (n - g) g d ≡ groupsFrom b gr n 0 (begin b))
+    × (groups_from b gr (n - g) g d ≡ groups_from b gr n 0 (begin b))
 
 abbrev decreases-loop : tie.decreases-loop
 decreases-loop b gr n p₀ q₀ r₀ d₀ g₀ p q r d g = n - g

@@ -4,7 +4,7 @@ use mathlib.Core.Bool.{Bool, true, false, beq}
 use mathlib.Core.Path.{◌≡◌, refl}
 use borrow.Author.Rules.{rules}
 use lib.Dec.{ltb}
-use Rattle.level.specs.Parents.{greater, aWins}
+use Rattle.level.specs.Parents.{greater, a_wins}
 use Rattle.level.proofs.parents.a_wins.Statement.{statement}
 use Rattle.level.proofs.parents.a_wins.Tie as tie
 
@@ -22,7 +22,7 @@ unlike false true n m h = refl
 unlike false false n m h = cc
 
 returns : tie.Need-returns
-unfolding aWins
+unfolding a_wins
 returns c =
     let a = c.before.before.before.before.args in
     let fa = c.before.before.fixed-at in
@@ -30,7 +30,7 @@ returns c =
     rw (← fa.ensures, ← fb.ensures) (alike fa.result fb.result a.rb a.ra c.if1.true)
 
 returns-2 : tie.Need-returns-2
-unfolding aWins
+unfolding a_wins
 returns-2 c =
     let a = c.before.before.before.before.args in
     let fa = c.before.before.fixed-at in

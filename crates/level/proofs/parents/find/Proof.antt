@@ -7,9 +7,9 @@ use mathlib.Core.Path.{◌≡◌, refl, sym, ap, ◌∙◌}
 use borrow.Author.Tests.{eq-eqb, ne_eqb}
 use borrow.Author.Rules.{rules}
 use lib.ListN.{length}
-use Rattle.loops.specs.Turns.{whileTo}
-use Rattle.loops.proofs.Turning.{whileTo-next, whileTo-stop, whileTo-done}
-use Rattle.level.specs.Parents.{up, below, halved, findOf}
+use Rattle.loops.specs.Turns.{while_to}
+use Rattle.loops.proofs.Turning.{while_to-next, while_to-stop, while_to-done}
+use Rattle.level.specs.Parents.{up, below, halved, find_of}
 use Rattle.level.proofs.Both.{both}
 use Rattle.level.proofs.parents.find.Statement.{statement}
 use Rattle.level.proofs.parents.find.Tie as tie
@@ -24,19 +24,19 @@ abbrev invariant-loop : tie.invariant-loop
 invariant-loop p₀ x x₀ counter₀ p x' counter =
     (counter ≤ 80)
     × (length p ≡ length p₀)
-    × (whileTo 80 counter below (λ i. halved) (record { parents = p; answer = x' }) ≡ findOf p₀ x)
+    × (while_to 80 counter below (λ i. halved) (record { parents = p; answer = x' }) ≡ find_of p₀ x)
 
 abbrev decreases-loop : tie.decreases-loop
 decreases-loop p₀ x x₀ counter₀ p x' counter = 80 - counter
 
 loop-holds : tie.Need-loop-init invariant-loop decreases-loop
-unfolding findOf
+unfolding find_of
 loop-holds c = (search rules, refl, refl)
 
 returns : tie.Need-returns invariant-loop decreases-loop
 returns c =
     let l = c.before.before.before.before.loop in
-    let e = whileTo-stop below (λ i. halved) 80 l.counter (record { parents = l.p; answer = l.x }) _ (search rules) (root l.p l.x _ c.before.up.ensures (search rules)) l.invariant.2 in
+    let e = while_to-stop below (λ i. halved) 80 l.counter (record { parents = l.p; answer = l.x }) _ (search rules) (root l.p l.x _ c.before.up.ensures (search rules)) l.invariant.2 in
     (ap (λ g. g.parents) e, ap (λ g. g.answer) e)
 
 loop-again : tie.Need-loop-preserved invariant-loop decreases-loop
@@ -46,14 +46,14 @@ loop-again c =
     let halve = c.before.before.halve in (
       search rules,
       search rules,
-      whileTo-next below (λ i. halved) 80 l.counter (record { parents = l.p; answer = l.x }) _ _ (search rules)
+      while_to-next below (λ i. halved) 80 l.counter (record { parents = l.p; answer = l.x }) _ _ (search rules)
           (inner l.p l.x _ up.ensures (search rules)) (both _ _ _ halve.ensures.0 halve.ensures.1) l.invariant.2,
     )
 
 returns-2 : tie.Need-returns-2 invariant-loop decreases-loop
 returns-2 c =
     let l = c.before.loop in
-    let e = whileTo-done below (λ i. halved) 80 l.counter (record { parents = l.p; answer = l.x }) _ (search rules) l.invariant.2 in
+    let e = while_to-done below (λ i. halved) 80 l.counter (record { parents = l.p; answer = l.x }) _ (search rules) l.invariant.2 in
     (ap (λ g. g.parents) e, ap (λ g. g.answer) e)
 
 pub find_spec : {M : Type 1} → statement M

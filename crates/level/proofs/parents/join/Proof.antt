@@ -5,19 +5,19 @@ use mathlib.Core.List.{List}
 use mathlib.Core.Path.{◌≡◌}
 use borrow.Author.Rules.{rules}
 use lib.ListN.{set}
-use Rattle.level.specs.Parents.{findOf, aWins, joinTo}
+use Rattle.level.specs.Parents.{find_of, a_wins, join_to}
 use Rattle.level.proofs.parents.join.Statement.{statement}
 use Rattle.level.proofs.parents.join.Tie as tie
 
 -- what the two finds and the test give
-module _ (fixed : List Bool) (a b ra rb : ℕ) (ps p₁ p₂ r : List ℕ) (w : Bool) (i : p₁ ≡ (findOf ps a).parents) (j : ra ≡ (findOf ps a).answer)
-    (k : p₂ ≡ (findOf p₁ b).parents) (l : rb ≡ (findOf p₁ b).answer) (e : w ≡ aWins fixed ra rb) where
-  first : w ≡ true → r ≡ set p₂ rb ra → r ≡ joinTo fixed a b ps
-  unfolding joinTo
+module _ (fixed : List Bool) (a b ra rb : ℕ) (ps p₁ p₂ r : List ℕ) (w : Bool) (i : p₁ ≡ (find_of ps a).parents) (j : ra ≡ (find_of ps a).answer)
+    (k : p₂ ≡ (find_of p₁ b).parents) (l : rb ≡ (find_of p₁ b).answer) (e : w ≡ a_wins fixed ra rb) where
+  first : w ≡ true → r ≡ set p₂ rb ra → r ≡ join_to fixed a b ps
+  unfolding join_to
   first t q = rw (← i, ← j, ← k, ← l, ← e, t) q
 
-  second : w ≡ false → r ≡ set p₂ ra rb → r ≡ joinTo fixed a b ps
-  unfolding joinTo
+  second : w ≡ false → r ≡ set p₂ ra rb → r ≡ join_to fixed a b ps
+  unfolding join_to
   second t q = rw (← i, ← j, ← k, ← l, ← e, t) q
 
 returns : tie.Need-returns

@@ -4,13 +4,13 @@ use mathlib.Core.Path.{◌≡◌, refl}
 use borrow.Author.Rules.{rules}
 use lib.ListN.{length}
 use Rattle.loops.specs.Turns.{up_to}
-use Rattle.loops.proofs.Turning.{upTo-next, upTo-done}
-use Rattle.level.specs.Parents.{selfAt, alone}
+use Rattle.loops.proofs.Turning.{up_to-next, up_to-done}
+use Rattle.level.specs.Parents.{self_at, alone}
 use Rattle.level.proofs.sweeps.each_alone.Statement.{statement}
 use Rattle.level.proofs.sweeps.each_alone.Tie as tie
 
 abbrev invariant-loop : tie.invariant-loop
-invariant-loop parent₀ p₀ parent p = (p ≤ 40) × (length parent ≡ 40) × (up_to 40 p selfAt parent ≡ alone)
+invariant-loop parent₀ p₀ parent p = (p ≤ 40) × (length parent ≡ 40) × (up_to 40 p self_at parent ≡ alone)
 
 abbrev decreases-loop : tie.decreases-loop
 decreases-loop parent₀ p₀ parent p = 40 - p
@@ -19,11 +19,11 @@ loop-holds : tie.Need-loop-init invariant-loop decreases-loop
 loop-holds c = (search rules, search rules, refl)
 
 loop-again : tie.Need-loop-preserved invariant-loop decreases-loop
-unfolding selfAt
-loop-again c = (search rules, search rules, search (upTo-next, rules))
+unfolding self_at
+loop-again c = (search rules, search rules, search (up_to-next, rules))
 
 returns : tie.Need-returns invariant-loop decreases-loop
-returns c = search (upTo-done, rules)
+returns c = search (up_to-done, rules)
 
 pub each-alone-spec : {M : Type 1} → statement M
 each-alone-spec =

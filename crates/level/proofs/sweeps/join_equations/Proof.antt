@@ -10,23 +10,23 @@ use lib.Seq.{get_or-take}
 use Rattle.loops.specs.Turns.{fold}
 use Rattle.loops.proofs.Turning.{fold_next, fold_done}
 use Rattle.sketch.specs.declared.Active.{Active}
-use Rattle.level.specs.Level.{joinEquation, joined}
+use Rattle.level.specs.Level.{join_equation, joined}
 use Rattle.level.proofs.sweeps.join_equations.Statement.{statement}
 use Rattle.level.proofs.sweeps.join_equations.Tie as tie
 
 -- a turn, over the equations that count
 turn : (axis : ℕ) (fixed : List Bool) (es : List Active) (d : Active) (n k : ℕ) (ps ps' R : List ℕ) → k < length (take n es)
-    → ps' ≡ joinEquation axis fixed ps (get_or es k d) → fold (joinEquation axis fixed) ps (drop k (take n es)) ≡ R
-    → fold (joinEquation axis fixed) ps' (drop (k + 1) (take n es)) ≡ R
+    → ps' ≡ join_equation axis fixed ps (get_or es k d) → fold (join_equation axis fixed) ps (drop k (take n es)) ≡ R
+    → fold (join_equation axis fixed) ps' (drop (k + 1) (take n es)) ≡ R
 turn axis fixed es d n k ps ps' R h e r =
-    fold_next d (joinEquation axis fixed) (take n es) k ps ps' R h
+    fold_next d (join_equation axis fixed) (take n es) k ps ps' R h
     (rw (get_or-take n es k d (omega (arith, length-take n es))) e) r
 
 abbrev invariant-loop : tie.invariant-loop
 invariant-loop parent₀ fixed n axis equations m k₀ parent k =
     (k ≤ m)
     × (length parent ≡ length parent₀)
-    × (fold (joinEquation axis fixed) parent (drop k (take n equations)) ≡ joined axis fixed (take n equations) parent₀)
+    × (fold (join_equation axis fixed) parent (drop k (take n equations)) ≡ joined axis fixed (take n equations) parent₀)
 
 abbrev decreases-loop : tie.decreases-loop
 decreases-loop parent₀ fixed n axis equations m k₀ parent k = m - k
@@ -49,7 +49,7 @@ returns : tie.Need-returns invariant-loop decreases-loop
 returns c =
     let a = c.before.before.before.before.before.args in
     let l = c.before.loop in
-    fold_done (joinEquation a.axis a.fixed.now) (take a.n a.t3) l.k l.parent _ (omega (arith, length-take a.n a.t3))
+    fold_done (join_equation a.axis a.fixed.now) (take a.n a.t3) l.k l.parent _ (omega (arith, length-take a.n a.t3))
     l.invariant.2
 
 pub join-equations-spec : {M : Type 1} → statement M

@@ -1,11 +1,11 @@
 -- What the calls promise, from the last to the first. Assumes nothing.
 use borrow.Author.Rules.{rules}
-use Rattle.level.specs.Level.{levelAxis}
+use Rattle.level.specs.Level.{level_axis}
 use Rattle.level.proofs.sweeps.level_axis.Statement.{statement}
 use Rattle.level.proofs.sweeps.level_axis.Tie as tie
 
 returns : tie.Need-returns
-unfolding levelAxis
+unfolding level_axis
 returns c =
     let each-alone = c.before.before.before.before.before.before.before.before.before.each-alone in
     let join-equations = c.before.before.before.before.before.before.before.join-equations in

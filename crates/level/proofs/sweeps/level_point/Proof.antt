@@ -7,25 +7,25 @@ use borrow.Author.Rules.{rules}
 use lib.Dec.{eqb}
 use lib.Ieee.{Float, nan}
 use lib.ListN.{get_or, set}
-use Rattle.level.specs.Level.{place, levelPoint}
-use Rattle.level.specs.Parents.{Gives, findOf}
+use Rattle.level.specs.Level.{place, level_point}
+use Rattle.level.specs.Parents.{Gives, find_of}
 use Rattle.level.proofs.sweeps.level_point.Statement.{statement}
 use Rattle.level.proofs.sweeps.level_point.Tie as tie
 
 -- what the find and the test give
-module _ (axis p root : ℕ) (fixed : List Bool) (f : Bool) (s : Gives (List Float)) (ps : List ℕ) (h : ps ≡ (findOf s.parents p).parents)
-    (i : root ≡ (findOf s.parents p).answer) (j : f ≡ get_or fixed p false) where
-  parents : ps ≡ (levelPoint axis fixed p s).parents
-  unfolding levelPoint
+module _ (axis p root : ℕ) (fixed : List Bool) (f : Bool) (s : Gives (List Float)) (ps : List ℕ) (h : ps ≡ (find_of s.parents p).parents)
+    (i : root ≡ (find_of s.parents p).answer) (j : f ≡ get_or fixed p false) where
+  parents : ps ≡ (level_point axis fixed p s).parents
+  unfolding level_point
   parents = h
 
   follows : (v : Float) (points : List Float) → not (eqb root p) && not f ≡ true → v ≡ get_or s.answer (place axis root) nan
-      → points ≡ set s.answer (place axis p) v → points ≡ (levelPoint axis fixed p s).answer
-  unfolding levelPoint
+      → points ≡ set s.answer (place axis p) v → points ≡ (level_point axis fixed p s).answer
+  unfolding level_point
   follows v points t e q = rw (← i, ← j, t, q, e)
 
-  stays : not (eqb root p) && not f ≡ false → s.answer ≡ (levelPoint axis fixed p s).answer
-  unfolding levelPoint
+  stays : not (eqb root p) && not f ≡ false → s.answer ≡ (level_point axis fixed p s).answer
+  unfolding level_point
   stays t = rw (← i, ← j, t)
 
 returns : tie.Need-returns

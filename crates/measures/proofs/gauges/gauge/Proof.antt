@@ -5,12 +5,12 @@ use lib.ListN.{length}
 use Rattle.rows.specs.Entries.{values_of}
 use Rattle.rows.specs.Located.{at_of}
 use Rattle.rows.proofs.Found.{found_rows}
-use Rattle.measures.specs.Gauges.{gaugeOf}
+use Rattle.measures.specs.Gauges.{gauge_of}
 use Rattle.measures.proofs.gauges.gauge.Statement.{statement}
 use Rattle.measures.proofs.gauges.gauge.Tie as tie
 
 returns : tie.Need-returns
-unfolding gaugeOf values_of
+unfolding gauge_of values_of
 returns c =
     let s = c.before.before.before.before.before.before.before.before.before.before.before.before in
     let a = s.args in

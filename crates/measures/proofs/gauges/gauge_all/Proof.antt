@@ -5,7 +5,7 @@ use mathlib.Core.Path.{◌≡◌, refl}
 use native.Mathlib.Omega.{arith}
 use borrow.Author.Rules.{rules}
 use lib.ListN.{length, take, drop, length-take}
-use Rattle.measures.specs.Gauges.{gaugeOf}
+use Rattle.measures.specs.Gauges.{gauge_of}
 use Rattle.measures.proofs.Head.{head-next, head_done}
 use Rattle.measures.proofs.gauges.gauge_all.Statement.{statement}
 use Rattle.measures.proofs.gauges.gauge_all.Tie as tie
@@ -15,7 +15,7 @@ invariant-loop n lines places x size out₀ measures k i₀ out i =
     (i ≤ k)
     × (k ≡ min (min n 20) (length out₀))
     × (length out ≡ length out₀)
-    × (out ≡ map (gaugeOf lines places x size) (take i (take n measures)) ++ drop i out₀)
+    × (out ≡ map (gauge_of lines places x size) (take i (take n measures)) ++ drop i out₀)
 
 abbrev decreases-loop : tie.decreases-loop
 decreases-loop n lines places x size out₀ measures k i₀ out i = k - i
@@ -30,7 +30,7 @@ loop-again c =
       search rules,
       l.invariant.1,
       search rules,
-      head-next (gaugeOf a.lines a.places.now a.x.now a.size) a.t1 a.out.now a.n _ l.out l.i _
+      head-next (gauge_of a.lines a.places.now a.x.now a.size) a.t1 a.out.now a.n _ l.out l.i _
           (omega (arith, length-take a.n a.t1)) (omega arith) c.gauge.ensures l.invariant.3,
     )
 
@@ -38,7 +38,7 @@ returns : tie.Need-returns invariant-loop decreases-loop
 returns c =
     let a = c.before.before.before.before.before.before.before.args in
     let l = c.before.loop in
-    head_done (gaugeOf a.lines a.places.now a.x.now a.size) (take a.n a.t1) a.out.now l.out l.i
+    head_done (gauge_of a.lines a.places.now a.x.now a.size) (take a.n a.t1) a.out.now l.out l.i
     (omega (arith, length-take a.n a.t1)) l.invariant.3
 
 pub gauge-all-spec : {M : Type 1} → statement M

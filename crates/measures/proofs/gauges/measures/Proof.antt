@@ -1,7 +1,7 @@
 -- What the calls promise, from the last to the first. Assumes nothing.
 use borrow.Author.Rules.{rules}
 use Rattle.loops.proofs.Parts.{front}
-use Rattle.measures.specs.Gauges.{gaugedOf, measuredIn}
+use Rattle.measures.specs.Gauges.{gauged_of, measured_in}
 use Rattle.measures.proofs.gauges.measures.Statement.{statement}
 use Rattle.measures.proofs.gauges.measures.Tie as tie
 
@@ -9,7 +9,7 @@ slice-aggregate-gauge-all : tie.Need-slice-aggregate-gauge-all
 slice-aggregate-gauge-all c = front _ _ (search rules)
 
 returns : tie.Need-returns
-unfolding gaugedOf measuredIn
+unfolding gauged_of measured_in
 returns c =
     let gauge-all = c.before.before.gauge-all in
     let in_order = c.before.before.before.before.before.before.before.before.in_order in

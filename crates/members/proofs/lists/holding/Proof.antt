@@ -2,14 +2,14 @@
 use Prim.Native.Nat.{◌-◌, ◌≤◌}
 use borrow.Author.Rules.{rules}
 use lib.ListN.{drop}
-use Rattle.groups.specs.Chains.{placesFrom}
+use Rattle.groups.specs.Chains.{places_from}
 use Rattle.members.proofs.Heads.{Pushed, pushed_start, pushed-count}
 use Rattle.members.proofs.Pushes.{holding-next, holding-done}
 use Rattle.members.proofs.lists.holding.Statement.{statement}
 use Rattle.members.proofs.lists.holding.Tie as tie
 
 abbrev invariant-loop : tie.invariant-loop
-invariant-loop g of r₀ i₀ r i = (i ≤ 40) × (r.count ≤ i) × (Pushed r (placesFrom i (drop i of) g) (placesFrom 0 of g))
+invariant-loop g of r₀ i₀ r i = (i ≤ 40) × (r.count ≤ i) × (Pushed r (places_from i (drop i of) g) (places_from 0 of g))
 
 abbrev decreases-loop : tie.decreases-loop
 decreases-loop g of r₀ i₀ r i = 40 - i

@@ -1,16 +1,16 @@
 -- Assumes nothing.
 use borrow.Author.Rules.{rules}
 use borrow.Author.Tests.{not-true, not-false}
-use Rattle.members.specs.Lists.{pushedOf}
+use Rattle.members.specs.Lists.{pushed_of}
 use Rattle.members.proofs.lists.pushed.Statement.{statement}
 use Rattle.members.proofs.lists.pushed.Tie as tie
 
 returns : tie.Need-returns
-unfolding pushedOf
+unfolding pushed_of
 returns c = rw (not-true c.before.args.wanted c.if1.true)
 
 returns-2 : tie.Need-returns-2
-unfolding pushedOf
+unfolding pushed_of
 returns-2 c = rw (not-false c.before.args.wanted c.if1.false)
 
 pub pushed-spec : {M : Type 1} → statement M

@@ -5,8 +5,8 @@ use native.Mathlib.Omega.{arith}
 use borrow.Author.Rules.{rules}
 use lib.ListN.{length, get_or, drop, length-take}
 use lib.Seq.{get_or-take}
-use Rattle.members.specs.Lists.{numbersOf}
-use Rattle.members.specs.Movable.{pointsAt, freeFrom, nowhere}
+use Rattle.members.specs.Lists.{numbers_of}
+use Rattle.members.specs.Movable.{points_at, free_from, nowhere}
 use Rattle.members.proofs.Heads.{PushedTwo, two-start, two-count}
 use Rattle.members.proofs.Knows.{known_is}
 use Rattle.members.proofs.Pushes.{free-next, free-done}
@@ -18,7 +18,7 @@ abbrev invariant-loop : tie.invariant-loop
 invariant-loop points l n f₀ k₀ f k =
     (k ≤ n)
     × (f.count ≤ 2 * k)
-    × (PushedTwo f (freeFrom k (drop k (pointsAt points (numbersOf l)))) (freeFrom 0 (pointsAt points (numbersOf l))))
+    × (PushedTwo f (free_from k (drop k (points_at points (numbers_of l)))) (free_from 0 (points_at points (numbers_of l))))
 
 abbrev decreases-loop : tie.decreases-loop
 decreases-loop points l n f₀ k₀ f k = n - k
@@ -34,12 +34,12 @@ loop-again c =
     let l = c.before.before.before.before.before.before.before.loop in
     let known = c.before.before.known in
     let n : length a.items ≡ 40 = sized 40 a.items s.well-formed.1.0.1.1.0.1.0.1 in
-    let here : get_or a.items l.k 0 ≡ get_or (numbersOf a) l.k 0 = sym (get_or-take a.count a.items l.k 0 (omega arith)) in
-    let point : known.result ≡ get_or points (get_or (numbersOf a) l.k 0) nowhere =
+    let here : get_or a.items l.k 0 ≡ get_or (numbers_of a) l.k 0 = sym (get_or-take a.count a.items l.k 0 (omega arith)) in
+    let point : known.result ≡ get_or points (get_or (numbers_of a) l.k 0) nowhere =
     known_is points _ _ _ (omega arith) c.before.before.before.before.smaller2.ensures _ known.ensures ∙ ap (λ p. get_or points p nowhere) here in (
       search rules,
       two-count _ l.k l.f c.pushed-two.result (search rules) c.pushed-two.ensures,
-      free-next points (numbersOf a) l.k c.before.fixed.result known.result l.f c.pushed-two.result _
+      free-next points (numbers_of a) l.k c.before.fixed.result known.result l.f c.pushed-two.result _
           (omega (arith, length-take a.count a.items)) point c.before.fixed.ensures (search rules) c.pushed-two.ensures l.invariant.2,
     )
 
@@ -49,7 +49,7 @@ returns c =
     let a = s.args.t2 in
     let l = c.before.loop in
     let n : length a.items ≡ 40 = sized 40 a.items s.well-formed.1.0.1.1.0.1.0.1 in
-    free-done s.args.t1 (numbersOf a) l.k l.f _ (omega (arith, length-take a.count a.items)) (search rules) l.invariant.2
+    free-done s.args.t1 (numbers_of a) l.k l.f _ (omega (arith, length-take a.count a.items)) (search rules) l.invariant.2
 
 pub free-of-spec : {M : Type 1} → statement M
 free-of-spec =

@@ -5,8 +5,8 @@ use native.Mathlib.Omega.{arith}
 use borrow.Author.Rules.{rules}
 use lib.ListN.{length}
 use Rattle.loops.specs.Turns.{up_to}
-use Rattle.members.specs.Lists.{numbersOf}
-use Rattle.members.specs.Scale.{unscaleAt, unscaleOf}
+use Rattle.members.specs.Lists.{numbers_of}
+use Rattle.members.specs.Scale.{unscale_at, unscale_of}
 use Rattle.members.proofs.Backs.{back-turn, back_done}
 use Rattle.members.proofs.Knows.{one-is}
 use Rattle.members.proofs.Sized.{sized}
@@ -17,13 +17,13 @@ abbrev invariant-loop : tie.invariant-loop
 invariant-loop centre size x out₀ points l n k₀ out k =
     (k ≤ n)
     × (length out ≡ length out₀)
-    × (up_to (length (numbersOf l)) k (unscaleAt points centre size (numbersOf l) x) out ≡ unscaleOf points centre size (numbersOf l) x out₀)
+    × (up_to (length (numbers_of l)) k (unscale_at points centre size (numbers_of l) x) out ≡ unscale_of points centre size (numbers_of l) x out₀)
 
 abbrev decreases-loop : tie.decreases-loop
 decreases-loop centre size x out₀ points l n k₀ out k = n - k
 
 loop-holds : tie.Need-loop-init invariant-loop decreases-loop
-unfolding unscaleOf
+unfolding unscale_of
 loop-holds c = (search rules, search rules, refl)
 
 loop-again : tie.Need-loop-preserved invariant-loop decreases-loop

@@ -4,7 +4,7 @@ use native.Mathlib.Omega.{arith}
 use borrow.Author.Rules.{rules}
 use lib.ListN.{length, replicate}
 use Rattle.groups.proofs.Counted.{taken}
-use Rattle.members.specs.Tables.{numberedOf}
+use Rattle.members.specs.Tables.{numbered_of}
 use Rattle.members.proofs.Sized.{sized}
 use Rattle.members.proofs.tables.columns.Statement.{statement}
 use Rattle.members.proofs.tables.columns.Tie as tie
@@ -19,7 +19,7 @@ returns : tie.Need-returns
 returns c =
     let s = c.before.before.before.before.before.before in
     let n : length s.args.f.items ≡ 80 = sized 80 s.args.f.items s.well-formed.0.1.1.0.1.0.1 in
-    c.before.number.ensures ∙ ap (λ l. numberedOf l (replicate 80 255)) (taken s.args.f.items s.args.f.count _ 80 n c.before.before.before.smaller.ensures)
+    c.before.number.ensures ∙ ap (λ l. numbered_of l (replicate 80 255)) (taken s.args.f.items s.args.f.count _ 80 n c.before.before.before.smaller.ensures)
 
 pub columns_spec : {M : Type 1} → statement M
 columns_spec = tie.close (tie.spec (λ c. search rules) (λ c κs. search rules) (λ c. search rules) number-requires returns)

@@ -6,8 +6,8 @@ use borrow.Author.Rules.{rules}
 use lib.ListN.{length, get_or, take, set}
 use lib.Seq.{length-take-le, get_or-take}
 use Rattle.loops.specs.Turns.{up_to}
-use Rattle.loops.proofs.Turning.{upTo-next, upTo-done}
-use Rattle.members.specs.Tables.{number_at, numberedOf}
+use Rattle.loops.proofs.Turning.{up_to-next, up_to-done}
+use Rattle.members.specs.Tables.{number_at, numbered_of}
 use Rattle.members.proofs.tables.number.Statement.{statement}
 use Rattle.members.proofs.tables.number.Tie as tie
 
@@ -16,21 +16,21 @@ module _ (items : List ℕ) (n : ℕ) (h : n ≤ length items) where
       → up_to (length (take n items)) (k + 1) (number_at (take n items)) t' ≡ R
   unfolding number_at
   turn k t t' R l e r =
-      upTo-next (number_at (take n items)) (length (take n items)) k t t' R (rw (length-take-le n items h) l)
+      up_to-next (number_at (take n items)) (length (take n items)) k t t' R (rw (length-take-le n items h) l)
       (e ∙ ap (λ c. set t c k) (sym (get_or-take n items k 0 l))) r
 
   done : (k : ℕ) (t R : List ℕ) → n ≤ k → up_to (length (take n items)) k (number_at (take n items)) t ≡ R → t ≡ R
-  done k t R l r = upTo-done (number_at (take n items)) (length (take n items)) k t R (rw (length-take-le n items h) l) r
+  done k t R l r = up_to-done (number_at (take n items)) (length (take n items)) k t R (rw (length-take-le n items h) l) r
 
 abbrev invariant-loop : tie.invariant-loop
 invariant-loop items n t₀ k₀ t k =
-    (k ≤ n) × (length t ≡ length t₀) × (up_to (length (take n items)) k (number_at (take n items)) t ≡ numberedOf (take n items) t₀)
+    (k ≤ n) × (length t ≡ length t₀) × (up_to (length (take n items)) k (number_at (take n items)) t ≡ numbered_of (take n items) t₀)
 
 abbrev decreases-loop : tie.decreases-loop
 decreases-loop items n t₀ k₀ t k = n - k
 
 loop-holds : tie.Need-loop-init invariant-loop decreases-loop
-unfolding numberedOf
+unfolding numbered_of
 loop-holds c = (search rules, search rules, refl)
 
 loop-again : tie.Need-loop-preserved invariant-loop decreases-loop

@@ -4,7 +4,7 @@ use borrow.Author.Rules.{rules}
 use borrow.Author.Tests.{lt-ltb, le-ltb, le-leb, lt-leb}
 use Rattle.floats.specs.Magnitude.{max_of}
 use Rattle.floats.specs.Ops.{1e-300}
-use Rattle.normal.specs.Half.{triangle, halfMaxOf}
+use Rattle.normal.specs.Half.{triangle, half_max_of}
 use Rattle.normal.proofs.Shapes.{none_over, none-short, top}
 use Rattle.normal.proofs.diagonal.diag_max.Statement.{statement}
 use Rattle.normal.proofs.diagonal.diag_max.Tie as tie
@@ -16,7 +16,7 @@ largest-requires : tie.Need-largest-requires
 largest-requires c κs = (c.before.before.if1.false, rw (← c.before.triangle.ensures) c.if2.true)
 
 returns-2 : tie.Need-returns-2
-unfolding halfMaxOf
+unfolding half_max_of
 returns-2 c =
     let i = c.before.before in
     top _ _ _ (le-ltb _ _ i.before.before.if1.false) (le-leb (triangle i.before.before.before.before.args.rows) _ (rw (← i.before.triangle.ensures) i.if2.true))

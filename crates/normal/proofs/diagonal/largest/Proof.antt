@@ -8,32 +8,32 @@ use lib.Ieee.{Float, nan}
 use lib.ListN.{get_or}
 use Rattle.floats.specs.Magnitude.{max_of}
 use Rattle.loops.specs.Turns.{up_to}
-use Rattle.loops.proofs.Turning.{upTo-next, upTo-done}
-use Rattle.normal.specs.Half.{triangle, maxInHalf, halfLargestOf}
+use Rattle.loops.proofs.Turning.{up_to-next, up_to-done}
+use Rattle.normal.specs.Half.{triangle, max_in_half, half_largest_of}
 use Rattle.normal.proofs.Halves.{halves}
 use Rattle.normal.proofs.diagonal.largest.Statement.{statement}
 use Rattle.normal.proofs.diagonal.largest.Tie as tie
 
 abbrev invariant-loop : tie.invariant-loop
 invariant-loop h rows m₀ i₀ m i =
-    (i ≤ rows) × (up_to rows i (maxInHalf h) m ≡ halfLargestOf rows h)
+    (i ≤ rows) × (up_to rows i (max_in_half h) m ≡ half_largest_of rows h)
 
 abbrev decreases-loop : tie.decreases-loop
 decreases-loop h rows m₀ i₀ m i = rows - i
 
 loop-holds : tie.Need-loop-init invariant-loop decreases-loop
-unfolding halfLargestOf
+unfolding half_largest_of
 loop-holds c = (search rules, refl)
 
-one_more : (i t : ℕ) (h : List Float) (m n : Float) → t ≡ triangle i → n ≡ max_of m (get_or h (t + i) nan) → n ≡ maxInHalf h i m
-unfolding maxInHalf
-one_more i t h m n e f = rw (f, e)
+one-more : (i t : ℕ) (h : List Float) (m n : Float) → t ≡ triangle i → n ≡ max_of m (get_or h (t + i) nan) → n ≡ max_in_half h i m
+unfolding max_in_half
+one-more i t h m n e f = rw (f, e)
 
 loop-again : tie.Need-loop-preserved invariant-loop decreases-loop
-loop-again c = (search rules, search (upTo-next, one_more, rules))
+loop-again c = (search rules, search (up_to-next, one-more, rules))
 
 returns : tie.Need-returns invariant-loop decreases-loop
-returns c = search (upTo-done, rules)
+returns c = search (up_to-done, rules)
 
 pub largest-spec : {M : Type 1} → statement M
 largest-spec =

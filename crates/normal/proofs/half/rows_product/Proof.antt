@@ -5,14 +5,14 @@ use borrow.Author.Rules.{rules}
 use lib.Ieee.{neg, of_bits}
 use Rattle.loops.proofs.Cells.{cells}
 use Rattle.loops.specs.Turns.{up_to}
-use Rattle.loops.proofs.Turning.{upTo-next, upTo-done}
-use Rattle.normal.specs.Normal.{addProduct, rowsProduct}
+use Rattle.loops.proofs.Turning.{up_to-next, up_to-done}
+use Rattle.normal.specs.Normal.{add_product, rows_product}
 use Rattle.normal.proofs.half.rows_product.Statement.{statement}
 use Rattle.normal.proofs.half.rows_product.Tie as tie
 
 abbrev invariant-loop : tie.invariant-loop
 invariant-loop j rows nf i k p q s₀ c₀ s c =
-    (c ≤ nf) × (p ≡ i * nf) × (q ≡ k * nf) × (up_to nf c (addProduct nf j i k) s ≡ rowsProduct nf j i k)
+    (c ≤ nf) × (p ≡ i * nf) × (q ≡ k * nf) × (up_to nf c (add_product nf j i k) s ≡ rows_product nf j i k)
 
 abbrev decreases-loop : tie.decreases-loop
 decreases-loop j rows nf i k p q s₀ c₀ s c = nf - c
@@ -24,7 +24,7 @@ mul-q : tie.Need-overflow-mul-q invariant-loop decreases-loop
 mul-q c = search (cells, rules)
 
 loop-holds : tie.Need-loop-init invariant-loop decreases-loop
-unfolding rowsProduct neg of_bits
+unfolding rows_product neg of_bits
 loop-holds c = (search rules, refl, refl, refl)
 
 add-s : tie.Need-overflow-add-s invariant-loop decreases-loop
@@ -46,11 +46,11 @@ shared-slice-read-s-2 : tie.Need-shared-slice-read-s-2 invariant-loop decreases-
 shared-slice-read-s-2 c = search (cells, rules)
 
 loop-again : tie.Need-loop-preserved invariant-loop decreases-loop
-unfolding addProduct
-loop-again c = (search rules, search rules, search rules, search (upTo-next, rules))
+unfolding add_product
+loop-again c = (search rules, search rules, search rules, search (up_to-next, rules))
 
 returns : tie.Need-returns invariant-loop decreases-loop
-returns c = search (upTo-done, rules)
+returns c = search (up_to-done, rules)
 
 pub rows-product-spec : {M : Type 1} → statement M
 rows-product-spec =

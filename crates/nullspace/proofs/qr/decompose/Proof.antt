@@ -10,12 +10,12 @@ use lib.Seq.{length-take-le, take_at}
 use lib.Ieee.{Float}
 use borrow.Author.Rules.{rules}
 use borrow.Author.Tests.{not-true, not-false}
-use Rattle.loops.specs.Turns.{whileTo}
-use Rattle.loops.proofs.Turning.{whileTo-next, whileTo-stop, whileTo-done}
+use Rattle.loops.specs.Turns.{while_to}
+use Rattle.loops.proofs.Turning.{while_to-next, while_to-stop, while_to-done}
 use Rattle.loops.proofs.Cells.{cell_row}
 use Rattle.loops.proofs.Parts.{tail-part, past-tail}
 use Rattle.nullspace.specs.declared.qr.Step.{Step}
-use Rattle.nullspace.specs.Layout.{Turned, laidOut, laidOn, laid, laidRank, laidReflectors, laidTurn}
+use Rattle.nullspace.specs.Layout.{Turned, laid_out, laid_on, laid, laid_rank, laid_reflectors, laid_turn}
 use Rattle.nullspace.proofs.qr.decompose.Statement.{statement}
 use Rattle.nullspace.proofs.qr.decompose.Tie as tie
 
@@ -28,29 +28,29 @@ module _ (rows n k : ℕ) (first : Float) (w t : List Float) (r : Step) (e : Tur
   told : Turned n (rows - k) k first (drop (k * n) w) t r
   told = rw tail-part at e
 
-  goes : r.on ≡ true → laidOn rows n k (laid k first w) ≡ true
-  unfolding laidOn
+  goes : r.on ≡ true → laid_on rows n k (laid k first w) ≡ true
+  unfolding laid_on
   goes o = sym told.on ∙ o
 
-  stops : r.on ≡ false → laidOn rows n k (laid k first w) ≡ false
-  unfolding laidOn
+  stops : r.on ≡ false → laid_on rows n k (laid k first w) ≡ false
+  unfolding laid_on
   stops o = sym told.on ∙ o
 
-  next : r.on ≡ true → laid (k + 1) r.first (take (k * n) w ++ (t ++ drop (length w - k * n) (drop (k * n) w))) ≡ laidTurn rows n k (laid k first w)
-  unfolding laidTurn
+  next : r.on ≡ true → laid (k + 1) r.first (take (k * n) w ++ (t ++ drop (length w - k * n) (drop (k * n) w))) ≡ laid_turn rows n k (laid k first w)
+  unfolding laid_turn
   next o = rw (past-tail w t (k * n), told.next, told.left o)
 
 kept : (w t : List Float) (k : ℕ) → k ≤ length w → take k (take k w ++ t) ≡ take k w
 kept w t k h = take_at (take k w) t k (length-take-le k w h)
 
 abbrev invariant-loop : tie.invariant-loop
-invariant-loop w₀ rows n last first₀ k₀ w first k = ((k ≤ last) × (last ≡ min n rows)) × (length w ≡ length w₀) × (whileTo last k (laidOn rows n) (laidTurn rows n) (laid k first w) ≡ laidOut rows n w₀)
+invariant-loop w₀ rows n last first₀ k₀ w first k = ((k ≤ last) × (last ≡ min n rows)) × (length w ≡ length w₀) × (while_to last k (laid_on rows n) (laid_turn rows n) (laid k first w) ≡ laid_out rows n w₀)
 
 abbrev decreases-loop : tie.decreases-loop
 decreases-loop w₀ rows n last first₀ k₀ w first k = last - k
 
 loop-holds : tie.Need-loop-init invariant-loop decreases-loop
-unfolding laidOut
+unfolding laid_out
 loop-holds c = ((search rules, c.smaller.ensures), refl, rw c.smaller.ensures)
 
 mul-start : tie.Need-overflow-mul-start invariant-loop decreases-loop
@@ -72,16 +72,16 @@ turn-requires : tie.Need-turn-requires invariant-loop decreases-loop
 turn-requires c κs = ((search rules, search rules), rw (tail-part, length-drop) (rest-fits _ _ _ _ (search rules) (search rules)))
 
 returns : tie.Need-returns invariant-loop decreases-loop
-returns c = let e = whileTo-stop _ _ _ _ _ _ c.before.before.before.before.before.before.loop-test.true (stops c.before.before.before.before.before.before.before.before.before.before.args.rows c.before.before.before.before.before.before.before.before.before.before.args.n c.before.before.before.before.before.before.before.loop.k c.before.before.before.before.before.before.before.loop.first c.before.before.before.before.before.before.before.loop.w c.before.before.before.before.turn.new.0 c.before.before.before.before.turn.result c.before.before.before.before.turn.ensures (not-true _ c.if1.true)) c.before.before.before.before.before.before.before.loop.invariant.2 in
-    record { bounded = search rules; rank = ap laidRank e; reflectors = kept c.before.before.before.before.before.before.before.loop.w _ (c.before.before.before.before.before.before.before.loop.k * c.before.before.before.before.before.before.before.before.before.before.args.n) (omega (arith, cell_row c.before.before.before.before.before.before.before.before.before.before.args.rows c.before.before.before.before.before.before.before.before.before.before.args.n c.before.before.before.before.before.before.before.loop.k (c.before.before.before.before.before.before.before.before.before.before.args.rows * c.before.before.before.before.before.before.before.before.before.before.args.n) (search rules) (le_refl (c.before.before.before.before.before.before.before.before.before.before.args.rows * c.before.before.before.before.before.before.before.before.before.before.args.n)))) ∙ ap (laidReflectors c.before.before.before.before.before.before.before.before.before.before.args.n) e }
+returns c = let e = while_to-stop _ _ _ _ _ _ c.before.before.before.before.before.before.loop-test.true (stops c.before.before.before.before.before.before.before.before.before.before.args.rows c.before.before.before.before.before.before.before.before.before.before.args.n c.before.before.before.before.before.before.before.loop.k c.before.before.before.before.before.before.before.loop.first c.before.before.before.before.before.before.before.loop.w c.before.before.before.before.turn.new.0 c.before.before.before.before.turn.result c.before.before.before.before.turn.ensures (not-true _ c.if1.true)) c.before.before.before.before.before.before.before.loop.invariant.2 in
+    record { bounded = search rules; rank = ap laid_rank e; reflectors = kept c.before.before.before.before.before.before.before.loop.w _ (c.before.before.before.before.before.before.before.loop.k * c.before.before.before.before.before.before.before.before.before.before.args.n) (omega (arith, cell_row c.before.before.before.before.before.before.before.before.before.before.args.rows c.before.before.before.before.before.before.before.before.before.before.args.n c.before.before.before.before.before.before.before.loop.k (c.before.before.before.before.before.before.before.before.before.before.args.rows * c.before.before.before.before.before.before.before.before.before.before.args.n) (search rules) (le_refl (c.before.before.before.before.before.before.before.before.before.before.args.rows * c.before.before.before.before.before.before.before.before.before.before.args.n)))) ∙ ap (laid_reflectors c.before.before.before.before.before.before.before.before.before.before.args.n) e }
 
 loop-again : tie.Need-loop-preserved invariant-loop decreases-loop
-loop-again c = ((search rules, c.before.before.before.before.before.before.before.loop.invariant.0.1), search rules, whileTo-next _ _ _ _ _ _ _ c.before.before.before.before.before.before.loop-test.true (goes c.before.before.before.before.before.before.before.before.before.before.args.rows c.before.before.before.before.before.before.before.before.before.before.args.n c.before.before.before.before.before.before.before.loop.k c.before.before.before.before.before.before.before.loop.first c.before.before.before.before.before.before.before.loop.w c.before.before.before.before.turn.new.0 c.before.before.before.before.turn.result c.before.before.before.before.turn.ensures (not-false _ c.if1.false)) (next c.before.before.before.before.before.before.before.before.before.before.args.rows c.before.before.before.before.before.before.before.before.before.before.args.n c.before.before.before.before.before.before.before.loop.k c.before.before.before.before.before.before.before.loop.first c.before.before.before.before.before.before.before.loop.w c.before.before.before.before.turn.new.0 c.before.before.before.before.turn.result c.before.before.before.before.turn.ensures (not-false _ c.if1.false)) c.before.before.before.before.before.before.before.loop.invariant.2)
+loop-again c = ((search rules, c.before.before.before.before.before.before.before.loop.invariant.0.1), search rules, while_to-next _ _ _ _ _ _ _ c.before.before.before.before.before.before.loop-test.true (goes c.before.before.before.before.before.before.before.before.before.before.args.rows c.before.before.before.before.before.before.before.before.before.before.args.n c.before.before.before.before.before.before.before.loop.k c.before.before.before.before.before.before.before.loop.first c.before.before.before.before.before.before.before.loop.w c.before.before.before.before.turn.new.0 c.before.before.before.before.turn.result c.before.before.before.before.turn.ensures (not-false _ c.if1.false)) (next c.before.before.before.before.before.before.before.before.before.before.args.rows c.before.before.before.before.before.before.before.before.before.before.args.n c.before.before.before.before.before.before.before.loop.k c.before.before.before.before.before.before.before.loop.first c.before.before.before.before.before.before.before.loop.w c.before.before.before.before.turn.new.0 c.before.before.before.before.turn.result c.before.before.before.before.turn.ensures (not-false _ c.if1.false)) c.before.before.before.before.before.before.before.loop.invariant.2)
 
 returns-2 : tie.Need-returns-2 invariant-loop decreases-loop
-returns-2 c = let e = whileTo-done _ _ _ _ _ _ c.loop-test.false c.before.loop.invariant.2 in
+returns-2 c = let e = while_to-done _ _ _ _ _ _ c.loop-test.false c.before.loop.invariant.2 in
     let q = le_antisymm c.loop-test.false c.before.loop.invariant.0.0 in
-    record { bounded = search rules; rank = q ∙ ap laidRank e; reflectors = ap (λ x. take (x * c.before.before.before.before.args.n) c.before.loop.w) q ∙ ap (laidReflectors c.before.before.before.before.args.n) e }
+    record { bounded = search rules; rank = q ∙ ap laid_rank e; reflectors = ap (λ x. take (x * c.before.before.before.before.args.n) c.before.loop.w) q ∙ ap (laid_reflectors c.before.before.before.before.args.n) e }
 
 pub decompose-spec : {M : Type 1} → statement M
 decompose-spec =

@@ -8,14 +8,14 @@ use Rattle.floats.specs.Ops.{zero⁺}
 use Rattle.loops.specs.Turns.{up_to}
 use Rattle.loops.proofs.Parts.{front}
 use Rattle.nullspace.specs.Steps.{away}
-use Rattle.nullspace.specs.Layout.{reflectorAt, swapHead}
+use Rattle.nullspace.specs.Layout.{reflector_at, swap_head}
 use borrow.Author.Rules.{rules}
 use Rattle.nullspace.proofs.qr.make_reflector.Statement.{statement}
 use Rattle.nullspace.proofs.qr.make_reflector.Tie as tie
 
-made : (n k row : ℕ) (norm : Float) (t t₁ z y : List Float) → k ≤ length t₁ → t₁ ≡ up_to n 0 (swapHead n row) t → z ≡ replicate (length (take k t₁)) zero⁺
-    → y ≡ away k norm (z ++ drop k t₁) → y ≡ reflectorAt n k row norm t
-unfolding reflectorAt
+made : (n k row : ℕ) (norm : Float) (t t₁ z y : List Float) → k ≤ length t₁ → t₁ ≡ up_to n 0 (swap_head n row) t → z ≡ replicate (length (take k t₁)) zero⁺
+    → y ≡ away k norm (z ++ drop k t₁) → y ≡ reflector_at n k row norm t
+unfolding reflector_at
 made n k row norm t t₁ z y h s q e = rw (e, q, length-take-le k t₁ h, s)
 
 slice-aggregate-clear : tie.Need-slice-aggregate-clear

@@ -1,7 +1,7 @@
 use Prim.Native.Nat.{ℕ, ◌+◌, ◌-◌}
 use mathlib.Core.Path.{◌≡◌}
 use native.Mathlib.Omega.{arith}
-use Rattle.nullspace.specs.Layout.{normAt}
+use Rattle.nullspace.specs.Layout.{norm_at}
 use borrow.Author.Rules.{rules}
 use Rattle.nullspace.proofs.qr.norm_from.Statement.{statement}
 use Rattle.nullspace.proofs.qr.norm_from.Tie as tie
@@ -10,7 +10,7 @@ left : (n k s : ℕ) → s + n - (s + k) ≡ n - k
 left n k s = omega arith
 
 returns : tie.Need-returns
-unfolding normAt
+unfolding norm_at
 returns c = rw (c.sqrt.ensures, c.before.norm2.ensures, left)
 
 pub norm-from-spec : {M : Type 1} → statement M

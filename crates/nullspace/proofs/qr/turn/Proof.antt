@@ -9,29 +9,29 @@ use lib.Dec.{eqb}
 use lib.ListN.{take}
 use lib.Ieee.{Float, eq}
 use Rattle.floats.specs.Ops.{zero⁺}
-use Rattle.solver.specs.Sums.{norm2Of}
+use Rattle.solver.specs.Sums.{norm2_of}
 use Rattle.loops.proofs.Parts.{front}
 use Rattle.loops.proofs.Cells.{cell_row}
 use Rattle.nullspace.specs.Steps.{ended}
-use Rattle.nullspace.specs.Layout.{begun, first_of, largestNorm, longestOf, normAt, reflectedBy, reflectorAt, turned, turns-on}
+use Rattle.nullspace.specs.Layout.{begun, first_norm_of, largest_norm, longest_of, norm_at, reflected_by, reflector_at, turned, turns-on}
 use borrow.Author.Rules.{rules}
 use Rattle.nullspace.proofs.qr.turn.Statement.{statement}
 use Rattle.nullspace.proofs.qr.turn.Tie as tie
 
-module _ (n m k : ℕ) (first norm : Float) (t : List Float) (row : ℕ) (found : row ≡ longestOf n m k t) (size : norm ≡ normAt n k t row) where
-  norm-is : norm ≡ largestNorm n m k t
-  unfolding largestNorm
-  norm-is = size ∙ ap (normAt n k t) found
+module _ (n m k : ℕ) (first norm : Float) (t : List Float) (row : ℕ) (found : row ≡ longest_of n m k t) (size : norm ≡ norm_at n k t row) where
+  norm-is : norm ≡ largest_norm n m k t
+  unfolding largest_norm
+  norm-is = size ∙ ap (norm_at n k t) found
 
-  next-is : (x : Float) → x ≡ cond (eqb k 0) norm first → x ≡ first_of n m k first t
-  unfolding first_of
+  next-is : (x : Float) → x ≡ cond (eqb k 0) norm first → x ≡ first_norm_of n m k first t
+  unfolding first_norm_of
   next-is x e = rw (← norm-is) e
 
   early : (b : Bool) → b ≡ ended first norm → b ≡ true → false ≡ turns-on n m k first t
   unfolding turns-on
   early b e o = rw (← norm-is, ← e, o)
 
-  module _ (b : Bool) (e : b ≡ ended first norm) (o : b ≡ false) (t₁ : List Float) (made : t₁ ≡ reflectorAt n k row norm t) (vv : Float) (square : vv ≡ norm2Of (take n t₁)) where
+  module _ (b : Bool) (e : b ≡ ended first norm) (o : b ≡ false) (t₁ : List Float) (made : t₁ ≡ reflector_at n k row norm t) (vv : Float) (square : vv ≡ norm2_of (take n t₁)) where
     begun-is : t₁ ≡ begun n m k t
     unfolding begun
     begun-is = rw (← norm-is, ← found) made
@@ -44,7 +44,7 @@ module _ (n m k : ℕ) (first norm : Float) (t : List Float) (row : ℕ) (found 
     unfolding turns-on
     on z = rw (← norm-is, ← e, o, ← begun-is, ← square, z)
 
-    left : (y : List Float) → y ≡ reflectedBy n m vv t₁ → y ≡ turned n m k t
+    left : (y : List Float) → y ≡ reflected_by n m vv t₁ → y ≡ turned n m k t
     unfolding turned
     left y q = rw (← begun-is, ← square) q
 

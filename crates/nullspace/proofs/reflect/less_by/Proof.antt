@@ -3,7 +3,7 @@ use mathlib.Core.Path.{◌≡◌, refl}
 use lib.ListN.{length}
 use borrow.Author.Rules.{rules}
 use Rattle.loops.specs.Turns.{up_to}
-use Rattle.loops.proofs.Turning.{upTo-next, upTo-done}
+use Rattle.loops.proofs.Turning.{up_to-next, up_to-done}
 use Rattle.nullspace.specs.Layout.{less_by}
 use Rattle.nullspace.proofs.reflect.less_by.Statement.{statement}
 use Rattle.nullspace.proofs.reflect.less_by.Tie as tie
@@ -19,10 +19,10 @@ loop-holds c = (search rules, refl, refl)
 
 loop-again : tie.Need-loop-preserved invariant-loop decreases-loop
 unfolding less_by
-loop-again c = (search rules, search rules, search (upTo-next, rules))
+loop-again c = (search rules, search rules, search (up_to-next, rules))
 
 returns : tie.Need-returns invariant-loop decreases-loop
-returns c = search (upTo-done, rules)
+returns c = search (up_to-done, rules)
 
 pub less-by-spec : {M : Type 1} → statement M
 less-by-spec =

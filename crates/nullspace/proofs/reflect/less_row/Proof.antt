@@ -1,16 +1,16 @@
 use mathlib.Core.Path.{refl}
 use Rattle.loops.proofs.Picks.{pick_yes, pick_no}
-use Rattle.nullspace.specs.Layout.{lessRowAt}
+use Rattle.nullspace.specs.Layout.{less_row_at}
 use borrow.Author.Rules.{rules}
 use Rattle.nullspace.proofs.reflect.less_row.Statement.{statement}
 use Rattle.nullspace.proofs.reflect.less_row.Tie as tie
 
 returns : tie.Need-returns
-unfolding lessRowAt
+unfolding less_row_at
 returns c = pick_yes _ _ _ _ c.before.before.before.before.if1.true c.before.before.less-past.ensures
 
 returns-2 : tie.Need-returns-2
-unfolding lessRowAt
+unfolding less_row_at
 returns-2 c = pick_no _ _ _ _ c.if1.false refl
 
 pub less-row-spec : {M : Type 1} → statement M

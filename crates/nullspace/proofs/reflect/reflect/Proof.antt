@@ -1,10 +1,10 @@
-use Rattle.nullspace.specs.Steps.{reflectOf}
+use Rattle.nullspace.specs.Steps.{reflect_of}
 use borrow.Author.Rules.{rules}
 use Rattle.nullspace.proofs.reflect.reflect.Statement.{statement}
 use Rattle.nullspace.proofs.reflect.reflect.Tie as tie
 
 returns : tie.Need-returns
-unfolding reflectOf
+unfolding reflect_of
 returns c = rw (c.before.before.less-all.ensures, c.before.before.before.before.before.before.products.ensures.0, c.before.before.before.before.before.before.products.ensures.1)
 
 pub reflect-spec : {M : Type 1} → statement M

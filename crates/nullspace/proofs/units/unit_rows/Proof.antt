@@ -10,10 +10,10 @@ use lib.Seq.{take_all}
 use lib.Ieee.{Float}
 use borrow.Author.Rules.{rules}
 use Rattle.loops.specs.Turns.{up_to}
-use Rattle.loops.proofs.Turning.{upTo-next, upTo-done}
+use Rattle.loops.proofs.Turning.{up_to-next, up_to-done}
 use Rattle.loops.proofs.Cells.{cell_row}
 use Rattle.nullspace.specs.Steps.{unit_of, unit_at}
-use Rattle.nullspace.specs.Layout.{add_unit, unitRows}
+use Rattle.nullspace.specs.Layout.{add_unit, unit_rows}
 use Rattle.nullspace.proofs.units.unit_rows.Statement.{statement}
 use Rattle.nullspace.proofs.units.unit_rows.Tie as tie
 
@@ -27,16 +27,16 @@ unit-turn n i m w y h s e =
 at-end : (f : ℕ → List Float → List Float) (rows n i : ℕ) (w R : List Float) → rows ≤ i → i ≤ rows → length w ≡ rows * n → up_to rows i f (take (i * n) w) ≡ R → w ≡ R
 at-end f rows n i w R h k e q =
     let all : length w ≤ i * n = omega (arith, mul-le-mul_right n h) in
-    sym (take_all (i * n) w all) ∙ upTo-done f rows i (take (i * n) w) R h q
+    sym (take_all (i * n) w all) ∙ up_to-done f rows i (take (i * n) w) R h q
 
 abbrev invariant-loop : tie.invariant-loop
-invariant-loop m rows n w₀ i₀ w i = (i ≤ rows) × (length w ≡ length w₀) × (up_to rows i (add_unit n m) (take (i * n) w) ≡ unitRows rows n m)
+invariant-loop m rows n w₀ i₀ w i = (i ≤ rows) × (length w ≡ length w₀) × (up_to rows i (add_unit n m) (take (i * n) w) ≡ unit_rows rows n m)
 
 abbrev decreases-loop : tie.decreases-loop
 decreases-loop m rows n w₀ i₀ w i = rows - i
 
 loop-holds : tie.Need-loop-init invariant-loop decreases-loop
-unfolding unitRows
+unfolding unit_rows
 loop-holds c = (search rules, refl, rw zero-mul)
 
 mul-start : tie.Need-overflow-mul-start invariant-loop decreases-loop
@@ -73,7 +73,7 @@ unit-row-requires : tie.Need-unit-row-requires invariant-loop decreases-loop
 unit-row-requires c κs = part_length (c.before.before.before.loop.i * c.before.before.before.before.before.before.args.n) _ _ (omega (arith, cell_row _ _ _ _ c.before.before.loop-test.true (le_refl (c.before.before.before.before.before.before.args.rows * c.before.before.before.before.before.before.args.n)))) ∙ sym (part_length (c.before.before.before.loop.i * c.before.before.before.before.before.before.args.n) _ _ (omega (arith, cell_row _ _ _ _ c.before.before.loop-test.true (le_refl (c.before.before.before.before.before.before.args.rows * c.before.before.before.before.before.before.args.n)))))
 
 loop-again : tie.Need-loop-preserved invariant-loop decreases-loop
-loop-again c = (search rules, search rules, upTo-next _ _ _ _ _ _ c.before.before.before.before.before.loop-test.true (unit-turn c.before.before.before.before.before.before.before.before.before.args.n c.before.before.before.before.before.before.loop.i c.before.before.before.before.before.before.before.before.before.args.m.now c.before.before.before.before.before.before.loop.w c.before.before.unit_row.new.1.0 (omega (arith, cell_row _ _ _ _ c.before.before.before.before.before.loop-test.true (le_refl (c.before.before.before.before.before.before.before.before.before.args.rows * c.before.before.before.before.before.before.before.before.before.args.n)))) c.before.before.unit_row.auto.1.0 c.before.before.unit_row.ensures) c.before.before.before.before.before.before.loop.invariant.2)
+loop-again c = (search rules, search rules, up_to-next _ _ _ _ _ _ c.before.before.before.before.before.loop-test.true (unit-turn c.before.before.before.before.before.before.before.before.before.args.n c.before.before.before.before.before.before.loop.i c.before.before.before.before.before.before.before.before.before.args.m.now c.before.before.before.before.before.before.loop.w c.before.before.unit_row.new.1.0 (omega (arith, cell_row _ _ _ _ c.before.before.before.before.before.loop-test.true (le_refl (c.before.before.before.before.before.before.before.before.before.args.rows * c.before.before.before.before.before.before.before.before.before.args.n)))) c.before.before.unit_row.auto.1.0 c.before.before.unit_row.ensures) c.before.before.before.before.before.before.loop.invariant.2)
 
 returns : tie.Need-returns invariant-loop decreases-loop
 returns c = at-end _ _ _ c.before.loop.i _ _ (search rules) (search rules) (search rules) c.before.loop.invariant.2

@@ -1,11 +1,11 @@
 -- Assumes nothing.
-use Rattle.phrases.specs.Equations.{equationAt}
+use Rattle.phrases.specs.Equations.{equation_at}
 use borrow.Author.Rules.{rules}
 use Rattle.phrases.proofs.equations.equation.Statement.{statement}
 use Rattle.phrases.proofs.equations.equation.Tie as tie
 
 returns : tie.Need-returns
-unfolding equationAt
+unfolding equation_at
 returns c = rw (c.equation-of.ensures, c.before.before.before.fields.ensures, c.before.before.before.before.of-kind.ensures, c.before.before.before.before.before.kind.ensures)
 
 pub equation-spec : {M : Type 1} → statement M

@@ -1,16 +1,16 @@
 -- Assumes nothing.
 use mathlib.Core.Path.{sym}
-use Rattle.phrases.specs.Fields.{contactAt}
+use Rattle.phrases.specs.Fields.{contact_at}
 use borrow.Author.Rules.{rules}
 use Rattle.phrases.proofs.fields.contact.Statement.{statement}
 use Rattle.phrases.proofs.fields.contact.Tie as tie
 
 returns : tie.Need-returns
-unfolding contactAt
+unfolding contact_at
 returns c = rw (c.holding.ensures, sym c.before.before.word.ensures, c.before.if1.true)
 
 returns-2 : tie.Need-returns-2
-unfolding contactAt
+unfolding contact_at
 returns-2 c = rw (c.holding2.ensures, sym c.before.before.before.word.ensures, c.before.before.if1.false, c.before.side.ensures)
 
 pub contact-spec : {M : Type 1} → statement M

@@ -1,11 +1,11 @@
 -- Assumes nothing.
-use Rattle.phrases.specs.Measures.{gaugedAt}
+use Rattle.phrases.specs.Measures.{gauged_at}
 use borrow.Author.Rules.{rules}
 use Rattle.phrases.proofs.gauges.gauged.Statement.{statement}
 use Rattle.phrases.proofs.gauges.gauged.Tie as tie
 
 returns : tie.Need-returns
-unfolding gaugedAt
+unfolding gauged_at
 returns c = rw (c.measure-of.ensures, c.before.before.before.fields.ensures, c.before.before.before.before.of-gauge.ensures)
 
 pub gauged-spec : {M : Type 1} → statement M

@@ -3,14 +3,14 @@ use mathlib.Core.List.{List}
 use mathlib.Core.Path.{◌≡◌}
 use Prim.Native.Nat.{ℕ}
 use Rattle.spelling.specs.declared.Cursor.{Cursor}
-use Rattle.phrases.specs.Kinds.{orNamed, trying}
+use Rattle.phrases.specs.Kinds.{or_named, trying}
 use Rattle.sketch.specs.declared.Kind.{Kind}
 use Rattle.phrases.specs.declared.KindRead.{KindRead}
 use borrow.Author.Rules.{rules}
 use Rattle.phrases.proofs.kinds.kind.Statement.{statement}
 use Rattle.phrases.proofs.kinds.kind.Tie as tie
 
-also : (s : List ℕ) (c : Cursor) (w : List ℕ) (k : Kind) (f g r : KindRead) → r ≡ orNamed s c f w k → f ≡ g → r ≡ orNamed s c g w k
+also : (s : List ℕ) (c : Cursor) (w : List ℕ) (k : Kind) (f g r : KindRead) → r ≡ or_named s c f w k → f ≡ g → r ≡ or_named s c g w k
 also s c w k f g r e h = rw h at e
 
 returns : tie.Need-returns

@@ -5,14 +5,14 @@ use mathlib.Core.Path.{◌≡◌, refl, ap, ◌∙◌}
 use native.Mathlib.Omega.{arith}
 use borrow.Author.Rules.{rules}
 use lib.ListN.{length, take, drop, length-take}
-use Rattle.floats.specs.Largest.{largerAbs}
+use Rattle.floats.specs.Largest.{larger_abs}
 use Rattle.floats.specs.Ops.{zero⁺}
 use Rattle.loops.specs.Turns.{fold}
 use Rattle.rows.proofs.Bounded.{bounded}
 use Rattle.rows.proofs.Found.{found_rows}
 use Rattle.rows.specs.Located.{at_of}
-use Rattle.plate.specs.Worst.{residualOf}
-use Rattle.plate.proofs.Sweeping.{each_row, withEquation, equation-next, equations-done}
+use Rattle.plate.specs.Worst.{residual_of}
+use Rattle.plate.proofs.Sweeping.{each_row, with_equation, equation-next, equations-done}
 use Rattle.plate.proofs.sweep.largest.Statement.{statement}
 use Rattle.plate.proofs.sweep.largest.Tie as tie
 
@@ -20,7 +20,7 @@ abbrev invariant-loop : tie.invariant-loop
 invariant-loop n places x equations lines k m₀ i₀ m i =
     (i ≤ k)
     × (k ≡ min n 40)
-    × (fold (withEquation equations lines (at_of places x) n) m (drop i (take n equations)) ≡ fold (withEquation equations lines (at_of places x) n) zero⁺ (take n equations))
+    × (fold (with_equation equations lines (at_of places x) n) m (drop i (take n equations)) ≡ fold (with_equation equations lines (at_of places x) n) zero⁺ (take n equations))
 
 abbrev decreases-loop : tie.decreases-loop
 decreases-loop n places x equations lines k m₀ i₀ m i = k - i
@@ -44,7 +44,7 @@ loop-again c =
       search rules,
       l.invariant.1,
       equation-next a.t1 a.t3 at a.n _ l.i l.m _ _ (omega (arith, length-take a.n a.t1, some, l.invariant.1, c.before.before.before.before.before.before.before.before.loop-test.true))
-          (c.larger-of.ensures ∙ each_row l.m _ (bounded _ at _) ∙ ap (λ rs. fold largerAbs l.m (map residualOf rs)) rows) l.invariant.2,
+          (c.larger-of.ensures ∙ each_row l.m _ (bounded _ at _) ∙ ap (λ rs. fold larger_abs l.m (map residual_of rs)) rows) l.invariant.2,
     )
 
 returns : tie.Need-returns invariant-loop decreases-loop

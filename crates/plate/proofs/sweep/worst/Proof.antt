@@ -1,7 +1,7 @@
 -- What the calls promise, from the last to the first. Assumes nothing.
 use borrow.Author.Rules.{rules}
 use Rattle.loops.proofs.Parts.{front}
-use Rattle.plate.specs.Worst.{worstOf}
+use Rattle.plate.specs.Worst.{worst_of}
 use Rattle.plate.proofs.sweep.worst.Statement.{statement}
 use Rattle.plate.proofs.sweep.worst.Tie as tie
 
@@ -9,7 +9,7 @@ slice-aggregate-largest : tie.Need-slice-aggregate-largest
 slice-aggregate-largest c = front _ _ (search rules)
 
 returns : tie.Need-returns
-unfolding worstOf
+unfolding worst_of
 returns c =
     let in_order = c.before.before.before.before.before.in_order in
     let scaled = c.before.before.before.before.before.before.scaled in

@@ -1,5 +1,5 @@
 use Rattle.loops.proofs.Parts.{front}
-use Rattle.replay.proofs.Reply.{compared, too_long}
+use Rattle.replay.proofs.Reply.{compared, too-long}
 use borrow.Author.Rules.{rules}
 use Rattle.replay.proofs.judge.is_reply.Statement.{statement}
 use Rattle.replay.proofs.judge.is_reply.Tie as tie
@@ -20,7 +20,7 @@ returns-2 : tie.Need-returns-2
 returns-2 c =
     let o = c.before.before.before.before.before in
     let a = o.before.before.before.before.before.before.before.args in
-    too_long a.text.now _ o.run.new.1.0 _ _ _ o.run.result o.run.ensures a.recorded.now c.if1.false
+    too-long a.text.now _ o.run.new.1.0 _ _ _ o.run.result o.run.ensures a.recorded.now c.if1.false
 
 pub is-reply-spec : {M : Type 1} → statement M
 is-reply-spec =

@@ -1,10 +1,10 @@
-use Rattle.replay.specs.Records.{recordAt}
+use Rattle.replay.specs.Records.{record_at}
 use borrow.Author.Rules.{rules}
 use Rattle.replay.proofs.records.record_at.Statement.{statement}
 use Rattle.replay.proofs.records.record_at.Tie as tie
 
 returns : tie.Need-returns
-unfolding recordAt
+unfolding record_at
 returns c = cc
 
 pub record-at-spec : {M : Type 1} → statement M

@@ -3,7 +3,7 @@ use mathlib.Core.Path.{◌≡◌, refl}
 use borrow.Author.Rules.{rules}
 use lib.ListN.{length}
 use Rattle.loops.specs.Turns.{up_to}
-use Rattle.loops.proofs.Turning.{upTo-next, upTo-done}
+use Rattle.loops.proofs.Turning.{up_to-next, up_to-done}
 use Rattle.replay.specs.Counted.{turn_of}
 use Rattle.replay.proofs.tally.count.Statement.{statement}
 use Rattle.replay.proofs.tally.count.Tie as tie
@@ -19,10 +19,10 @@ loop-holds : tie.Need-loop-init invariant-loop decreases-loop
 loop-holds c = (search rules, search rules, refl)
 
 loop-again : tie.Need-loop-preserved invariant-loop decreases-loop
-loop-again c = (search rules, search rules, search (upTo-next, rules))
+loop-again c = (search rules, search rules, search (up_to-next, rules))
 
 returns : tie.Need-returns invariant-loop decreases-loop
-returns c = search (upTo-done, rules)
+returns c = search (up_to-done, rules)
 
 pub count_spec : {M : Type 1} → statement M
 count_spec =

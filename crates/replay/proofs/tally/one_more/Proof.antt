@@ -1,15 +1,15 @@
 use Rattle.loops.proofs.Picks.{picks}
-use Rattle.replay.specs.Counted.{oneMore}
+use Rattle.replay.specs.Counted.{one_more}
 use borrow.Author.Rules.{rules}
 use Rattle.replay.proofs.tally.one_more.Statement.{statement}
 use Rattle.replay.proofs.tally.one_more.Tie as tie
 
 returns : tie.Need-returns
-unfolding oneMore
+unfolding one_more
 returns c = search (picks, rules)
 
 returns-2 : tie.Need-returns-2
-unfolding oneMore
+unfolding one_more
 returns-2 c = search (picks, rules)
 
 pub one-more-spec : {M : Type 1} → statement M

@@ -4,7 +4,7 @@ use mathlib.Core.Path.{◌≡◌, refl}
 use borrow.Author.Rules.{rules}
 use lib.ListN.{length, drop}
 use Rattle.loops.proofs.Turning.{fold_next, fold_done}
-use Rattle.reply.specs.Laid.{laid, nextByte, laying}
+use Rattle.reply.specs.Laid.{laid, next_byte, laying}
 use Rattle.reply.proofs.laying.word.Statement.{statement}
 use Rattle.reply.proofs.laying.word.Tie as tie
 
@@ -22,13 +22,13 @@ loop-again : tie.Need-loop-preserved invariant-loop decreases-loop
 loop-again c =
     let l = c.before.before.before.before.before.before in
     let a = l.before.before.before.args in
-    (search rules, search rules, search rules, fold_next 0 nextByte a.w.now l.loop.i _ _ _ (search rules) c.before.before.put.ensures l.loop.invariant.3)
+    (search rules, search rules, search rules, fold_next 0 next_byte a.w.now l.loop.i _ _ _ (search rules) c.before.before.put.ensures l.loop.invariant.3)
 
 returns : tie.Need-returns invariant-loop decreases-loop
 returns c =
     let l = c.before in
     let a = l.before.before.before.args in
-    fold_done nextByte a.w.now l.loop.i _ _ (search rules) l.loop.invariant.3
+    fold_done next_byte a.w.now l.loop.i _ _ (search rules) l.loop.invariant.3
 
 pub word-spec : {M : Type 1} → statement M
 word-spec =

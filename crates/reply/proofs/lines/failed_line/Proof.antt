@@ -1,12 +1,12 @@
 -- Assumes nothing.
 use borrow.Author.Rules.{rules}
-use Rattle.reply.specs.Lines.{failedLine}
+use Rattle.reply.specs.Lines.{failed_line}
 use Rattle.reply.proofs.Laws.{then}
 use Rattle.reply.proofs.lines.failed_line.Statement.{statement}
 use Rattle.reply.proofs.lines.failed_line.Tie as tie
 
 returns : tie.Need-returns
-unfolding failedLine
+unfolding failed_line
 returns c =
     let n = c.before.before in
     let w = n.before.before.before.before in

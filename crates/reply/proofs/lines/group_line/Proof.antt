@@ -1,12 +1,12 @@
 -- Assumes nothing.
 use borrow.Author.Rules.{rules}
-use Rattle.reply.specs.Lines.{groupLine}
+use Rattle.reply.specs.Lines.{group_line}
 use Rattle.reply.proofs.Laws.{then}
 use Rattle.reply.proofs.lines.group_line.Statement.{statement}
 use Rattle.reply.proofs.lines.group_line.Tie as tie
 
 returns : tie.Need-returns
-unfolding groupLine
+unfolding group_line
 returns c =
     let t = c.before.before in
     let i = t.before.before.before.before in

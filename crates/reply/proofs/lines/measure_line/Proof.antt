@@ -1,12 +1,12 @@
 -- Assumes nothing.
 use borrow.Author.Rules.{rules}
-use Rattle.reply.specs.Lines.{measureLine}
+use Rattle.reply.specs.Lines.{measure_line}
 use Rattle.reply.proofs.Laws.{then}
 use Rattle.reply.proofs.lines.measure_line.Statement.{statement}
 use Rattle.reply.proofs.lines.measure_line.Tie as tie
 
 returns : tie.Need-returns
-unfolding measureLine
+unfolding measure_line
 returns c =
     let x = c.before.before in
     let k = x.before.before.before.before.before in

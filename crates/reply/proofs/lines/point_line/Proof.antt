@@ -1,12 +1,12 @@
 -- Assumes nothing.
 use borrow.Author.Rules.{rules}
-use Rattle.reply.specs.Lines.{pointLine}
+use Rattle.reply.specs.Lines.{point_line}
 use Rattle.reply.proofs.Laws.{then}
 use Rattle.reply.proofs.lines.point_line.Statement.{statement}
 use Rattle.reply.proofs.lines.point_line.Tie as tie
 
 returns : tie.Need-returns
-unfolding pointLine
+unfolding point_line
 returns c =
     let y = c.before.before in
     let x = y.before.before.before.before.before in

@@ -1,12 +1,12 @@
 -- Assumes nothing.
 use borrow.Author.Rules.{rules}
-use Rattle.reply.specs.Lines.{statusLine}
+use Rattle.reply.specs.Lines.{status_line}
 use Rattle.reply.proofs.Laws.{then}
 use Rattle.reply.proofs.lines.status_line.Statement.{statement}
 use Rattle.reply.proofs.lines.status_line.Tie as tie
 
 returns : tie.Need-returns
-unfolding statusLine
+unfolding status_line
 returns c =
     let n = c.before.before in
     let k = n.before.before.before.before.before in

@@ -1,12 +1,12 @@
 -- Assumes nothing.
 use borrow.Author.Rules.{rules}
-use Rattle.reply.specs.Lines.{totalLines}
+use Rattle.reply.specs.Lines.{total_lines}
 use Rattle.reply.proofs.Laws.{then}
 use Rattle.reply.proofs.lines.total_lines.Statement.{statement}
 use Rattle.reply.proofs.lines.total_lines.Tie as tie
 
 returns : tie.Need-returns
-unfolding totalLines
+unfolding total_lines
 returns c =
     let w = c.before.before in
     let k3 = w.before.before.before.before in

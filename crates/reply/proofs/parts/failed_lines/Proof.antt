@@ -1,12 +1,12 @@
 -- Assumes nothing.
 use borrow.Author.Rules.{rules}
-use Rattle.reply.specs.Reply.{failedLines}
+use Rattle.reply.specs.Reply.{failed_lines}
 use Rattle.reply.proofs.Laws.{then}
 use Rattle.reply.proofs.parts.failed_lines.Statement.{statement}
 use Rattle.reply.proofs.parts.failed_lines.Tie as tie
 
 returns : tie.Need-returns
-unfolding failedLines
+unfolding failed_lines
 returns c =
     let s = c.before.before in
     then _ _ _ _ _ s.before.before.before.before.failed-line.ensures s.suspect-lines.ensures

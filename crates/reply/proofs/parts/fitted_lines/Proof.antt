@@ -1,12 +1,12 @@
 -- Assumes nothing.
 use borrow.Author.Rules.{rules}
-use Rattle.reply.specs.Reply.{fittedLines}
+use Rattle.reply.specs.Reply.{fitted_lines}
 use Rattle.reply.proofs.Laws.{then}
 use Rattle.reply.proofs.parts.fitted_lines.Statement.{statement}
 use Rattle.reply.proofs.parts.fitted_lines.Tie as tie
 
 returns : tie.Need-returns
-unfolding fittedLines
+unfolding fitted_lines
 returns c =
     let o = c.before.before in
     let g = o.before.before.before.before in

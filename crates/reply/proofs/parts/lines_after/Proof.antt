@@ -12,22 +12,22 @@ use Rattle.sketch.specs.contracts.Ending.{the_type}
 use Rattle.sketch.specs.declared.Ending.{Ending}
 use Rattle.sketch.specs.declared.Ending.TheVariants.{Fitted, TooLong, BadForm, TooMany, OutOfBounds, NoSuchItem, TooManyRows, NotConverged, TooShort}
 use Rattle.reply.specs.Laid.{LaidBytes, laying}
-use Rattle.reply.specs.Reply.{fittedLines, failedLines, linesAfter}
+use Rattle.reply.specs.Reply.{fitted_lines, failed_lines, lines_after}
 use Rattle.reply.proofs.parts.lines_after.Statement.{statement}
 use Rattle.reply.proofs.parts.lines_after.Tie as tie
 
 module _ (e : Ending) (a : Answer) (out : List Float) (p m : ℕ) (s u : LaidBytes) where
-  fitted : e ≡ Fitted → u ≡ laying (fittedLines a out p m) s → u ≡ laying (linesAfter e a out p m) s
+  fitted : e ≡ Fitted → u ≡ laying (fitted_lines a out p m) s → u ≡ laying (lines_after e a out p m) s
   fitted q f = rw q f
 
-  failed : e ≡ NotConverged → u ≡ laying (failedLines a) s → u ≡ laying (linesAfter e a out p m) s
+  failed : e ≡ NotConverged → u ≡ laying (failed_lines a) s → u ≡ laying (lines_after e a out p m) s
   failed q f = rw q f
 
 -- the tags of the endings that have no more lines
 abbrev others : List ℕ
 others = 1 ∷ 2 ∷ 3 ∷ 4 ∷ 5 ∷ 6 ∷ 8 ∷ []
 
-no_more : (e : Ending) (a : Answer) (out : List Float) (p m : ℕ) (s : LaidBytes) → OneOf others (tag_of the_type e) → s ≡ laying (linesAfter e a out p m) s
+no_more : (e : Ending) (a : Answer) (out : List Float) (p m : ℕ) (s : LaidBytes) → OneOf others (tag_of the_type e) → s ≡ laying (lines_after e a out p m) s
 unfolding fold
 no_more Fitted a out p m s h = absurd (miss others 0 tt h)
 no_more NotConverged a out p m s h = absurd (miss others 7 tt h)

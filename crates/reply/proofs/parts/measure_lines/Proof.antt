@@ -4,7 +4,7 @@ use mathlib.Core.Path.{◌≡◌, refl}
 use borrow.Author.Rules.{rules}
 use lib.ListN.{length}
 use Rattle.reply.specs.Laid.{laid, laying}
-use Rattle.reply.specs.Lines.{measureLine}
+use Rattle.reply.specs.Lines.{measure_line}
 use Rattle.reply.specs.Reply.{rising}
 use Rattle.reply.proofs.Laws.{rising-start, rising-next, rising-done}
 use Rattle.reply.proofs.parts.measure_lines.Statement.{statement}
@@ -12,7 +12,7 @@ use Rattle.reply.proofs.parts.measure_lines.Tie as tie
 
 abbrev invariant-loop : tie.invariant-loop
 invariant-loop reply₀ at out p m next₀ j₀ reply next j =
-    (j ≤ m) × (length reply ≡ length reply₀) × (laid next reply ≡ laying (rising (λ k. measureLine out (2 * p + k)) j) (laid at reply₀))
+    (j ≤ m) × (length reply ≡ length reply₀) × (laid next reply ≡ laying (rising (λ k. measure_line out (2 * p + k)) j) (laid at reply₀))
 
 abbrev decreases-loop : tie.decreases-loop
 decreases-loop reply₀ at out p m next₀ j₀ reply next j = m - j

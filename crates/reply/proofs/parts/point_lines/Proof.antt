@@ -4,7 +4,7 @@ use mathlib.Core.Path.{◌≡◌, refl}
 use borrow.Author.Rules.{rules}
 use lib.ListN.{length}
 use Rattle.reply.specs.Laid.{laid, laying}
-use Rattle.reply.specs.Lines.{pointLine}
+use Rattle.reply.specs.Lines.{point_line}
 use Rattle.reply.specs.Reply.{rising}
 use Rattle.reply.proofs.Laws.{rising-start, rising-next, rising-done}
 use Rattle.reply.proofs.parts.point_lines.Statement.{statement}
@@ -12,7 +12,7 @@ use Rattle.reply.proofs.parts.point_lines.Tie as tie
 
 abbrev invariant-loop : tie.invariant-loop
 invariant-loop reply₀ at out p next₀ i₀ reply next i =
-    (i ≤ p) × (length reply ≡ length reply₀) × (laid next reply ≡ laying (rising (pointLine out) i) (laid at reply₀))
+    (i ≤ p) × (length reply ≡ length reply₀) × (laid next reply ≡ laying (rising (point_line out) i) (laid at reply₀))
 
 abbrev decreases-loop : tie.decreases-loop
 decreases-loop reply₀ at out p next₀ i₀ reply next i = p - i

@@ -4,18 +4,18 @@ use mathlib.Core.Path.{◌≡◌, refl}
 use borrow.Author.Rules.{rules}
 use lib.ListN.{length}
 use Rattle.reply.specs.Laid.{laid, laying}
-use Rattle.reply.specs.Lines.{suspectLine}
-use Rattle.reply.specs.Reply.{rising, markCount}
+use Rattle.reply.specs.Lines.{suspect_line}
+use Rattle.reply.specs.Reply.{rising, mark_count}
 use Rattle.reply.proofs.Laws.{rising-start, rising-next, rising-done}
 use Rattle.reply.proofs.parts.suspect_lines.Statement.{statement}
 use Rattle.reply.proofs.parts.suspect_lines.Tie as tie
 
 abbrev invariant-loop : tie.invariant-loop
 invariant-loop reply₀ at suspects next₀ k₀ reply next k =
-    (k ≤ markCount) × (length reply ≡ length reply₀) × (laid next reply ≡ laying (rising (suspectLine suspects) k) (laid at reply₀))
+    (k ≤ mark_count) × (length reply ≡ length reply₀) × (laid next reply ≡ laying (rising (suspect_line suspects) k) (laid at reply₀))
 
 abbrev decreases-loop : tie.decreases-loop
-decreases-loop reply₀ at suspects next₀ k₀ reply next k = markCount - k
+decreases-loop reply₀ at suspects next₀ k₀ reply next k = mark_count - k
 
 loop-holds : tie.Need-loop-init invariant-loop decreases-loop
 loop-holds c = (search rules, refl, rising-start _ _)

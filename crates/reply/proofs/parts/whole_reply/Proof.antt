@@ -1,7 +1,7 @@
 -- Assumes nothing.
 use borrow.Author.Rules.{rules}
 use native.Mathlib.Omega.{arith}
-use Rattle.reply.specs.Reply.{replyOf}
+use Rattle.reply.specs.Reply.{reply_of}
 use Rattle.reply.proofs.Laws.{then}
 use Rattle.reply.proofs.parts.whole_reply.Statement.{statement}
 use Rattle.reply.proofs.parts.whole_reply.Tie as tie
@@ -12,7 +12,7 @@ lines-after-requires c κs =
     (omega (arith, m.before.smaller.ensures), omega (arith, m.smaller2.ensures))
 
 returns : tie.Need-returns
-unfolding replyOf
+unfolding reply_of
 returns c =
     let l = c.before.before in
     let s = l.before.before.before.before in

@@ -6,8 +6,8 @@ use native.Mathlib.Omega.{arith}
 use borrow.Author.Rules.{rules}
 use lib.ListN.{length}
 use Rattle.loops.specs.Turns.{up_to}
-use Rattle.loops.proofs.Turning.{upTo-next, upTo-done}
-use Rattle.rooms_c.specs.Jobs.{tableIn, laidOver}
+use Rattle.loops.proofs.Turning.{up_to-next, up_to-done}
+use Rattle.rooms_c.specs.Jobs.{table_in, laid_over}
 use Rattle.rooms_c.proofs.builds.lay.Statement.{statement}
 use Rattle.rooms_c.proofs.builds.lay.Tie as tie
 
@@ -22,7 +22,7 @@ ruleset reach = (left, right)
 
 abbrev invariant-loop : tie.invariant-loop
 invariant-loop to₀ table n i₀ to i =
-    (n ≡ min 40 (length to₀)) × (i ≤ n) × (length to ≡ length to₀) × (up_to n i (tableIn table) to ≡ up_to n 0 (tableIn table) to₀)
+    (n ≡ min 40 (length to₀)) × (i ≤ n) × (length to ≡ length to₀) × (up_to n i (table_in table) to ≡ up_to n 0 (table_in table) to₀)
 
 abbrev decreases-loop : tie.decreases-loop
 decreases-loop to₀ table n i₀ to i = n - i
@@ -31,12 +31,12 @@ loop-holds : tie.Need-loop-init invariant-loop decreases-loop
 loop-holds c = (c.smaller.ensures, search rules, refl, refl)
 
 loop-again : tie.Need-loop-preserved invariant-loop decreases-loop
-unfolding tableIn
-loop-again c = (search rules, search rules, search rules, search (upTo-next, rules))
+unfolding table_in
+loop-again c = (search rules, search rules, search rules, search (up_to-next, rules))
 
 returns : tie.Need-returns invariant-loop decreases-loop
-unfolding laidOver
-returns c = let l = c.before.loop in rw (← l.invariant.0) (search (upTo-done, rules))
+unfolding laid_over
+returns c = let l = c.before.loop in rw (← l.invariant.0) (search (up_to-done, rules))
 
 pub lay-spec : {M : Type 1} → statement M
 lay-spec =

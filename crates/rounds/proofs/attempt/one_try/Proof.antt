@@ -2,7 +2,7 @@ use mathlib.Core.Path.{ap, ◌∙◌}
 use lib.ListN.{length}
 use borrow.Author.Rules.{rules}
 use Rattle.solver.specs.Reasons.{some}
-use Rattle.rounds.specs.Problem.{rowCount, problemOf, state_of}
+use Rattle.rounds.specs.Problem.{row_count, problem_of, state_of}
 use Rattle.rounds.specs.Solve.{Problem, judged}
 use Rattle.rounds.proofs.Trials.{trial-made}
 use Rattle.rounds.proofs.attempt.one_try.Statement.{statement}
@@ -11,7 +11,7 @@ use Rattle.rounds.proofs.attempt.one_try.Tie as tie
 -- the problem that the parameters pose
 module _ (s : tie.Start) where
   abbrev posed : Problem
-  posed = problemOf s.args.equations s.args.lines s.args.places.now s.args.chosen.now s.args.free.now (rowCount s.args.equations s.args.chosen.now)
+  posed = problem_of s.args.equations s.args.lines s.args.places.now s.args.chosen.now s.args.free.now (row_count s.args.equations s.args.chosen.now)
 
 values-at-requires : tie.Need-values-at-requires
 values-at-requires c κs =

@@ -8,8 +8,8 @@ use lib.Seq.{length_front}
 use Rattle.floats.specs.Ops.{zero⁺}
 use Rattle.groups.proofs.Counted.{taken}
 use Rattle.members.proofs.Sized.{sized}
-use Rattle.members.specs.Lists.{numbersOf}
-use Rattle.members.specs.Movable.{indicesOf}
+use Rattle.members.specs.Lists.{numbers_of}
+use Rattle.members.specs.Movable.{indices_of}
 use Rattle.loops.proofs.Parts.{front, still-fits, refilled}
 use Rattle.normal.proofs.Halves.{few-places}
 use Rattle.normal.specs.Half.{triangle}
@@ -65,10 +65,10 @@ module _ (h : tie.After-smaller2) where
   narrow : moving ≤ 80
   narrow = omega (arith, h.smaller2.ensures)
 
-  chosen_is : chosen ≡ numbersOf began.args.p.chosen.0
+  chosen_is : chosen ≡ numbers_of began.args.p.chosen.0
   chosen_is = taken began.args.p.chosen.0.items began.args.p.chosen.0.count picked 40 items-long h.before.before.before.before.before.smaller.ensures
 
-  free-is : free ≡ indicesOf began.args.p.free
+  free-is : free ≡ indices_of began.args.p.free
   free-is = taken began.args.p.free.items began.args.p.free.count moving 80 free-long h.smaller2.ensures
 
 -- once the residuals are there: how many there are, what a table of them takes, and that each area has room for its table
@@ -282,7 +282,7 @@ returns c =
     let h = listed k in
     let s = start k in
     let e = k.first-values.ensures.counted in
-    left-of s.args.p.equations s.args.p.lines s.args.p.places s.args.p.columns (chosen h) (numbersOf s.args.p.chosen.0) (free h) (indicesOf s.args.p.free) s.args.x.now s.args.a.now s.args.b.now s.args.c.now _ _ _ _ _
+    left-of s.args.p.equations s.args.p.lines s.args.p.places s.args.p.columns (chosen h) (numbers_of s.args.p.chosen.0) (free h) (indices_of s.args.p.free) s.args.x.now s.args.a.now s.args.b.now s.args.c.now _ _ _ _ _
     (chosen_is h) (free-is h)
     (record {
       outcome = o.opened.ensures;

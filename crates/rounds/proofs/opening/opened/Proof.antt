@@ -3,7 +3,7 @@ use native.Mathlib.Nat.{le_refl}
 use lib.Ieee.{Float}
 use lib.ListN.{length}
 use borrow.Author.Rules.{rules}
-use Rattle.rounds.specs.Problem.{rowCount, jacobianAt, problemOf}
+use Rattle.rounds.specs.Problem.{row_count, jacobian_at, problem_of}
 use Rattle.rounds.specs.Solve.{Problem}
 use Rattle.rounds.proofs.Begins.{opened-within, opened-fixed, opened-rounds}
 use Rattle.rounds.proofs.opening.opened.Statement.{statement}
@@ -12,10 +12,10 @@ use Rattle.rounds.proofs.opening.opened.Tie as tie
 -- the problem that the parameters pose, and its Jacobian
 module _ (s : tie.Start) where
   abbrev posed : Problem
-  posed = problemOf s.args.equations s.args.lines s.args.places.now s.args.chosen.now s.args.free.now (rowCount s.args.equations s.args.chosen.now)
+  posed = problem_of s.args.equations s.args.lines s.args.places.now s.args.chosen.now s.args.free.now (row_count s.args.equations s.args.chosen.now)
 
   abbrev gradients : List Float → List Float
-  gradients = jacobianAt s.args.equations s.args.lines s.args.places.now s.args.chosen.now s.args.columns.now (length s.args.free.now)
+  gradients = jacobian_at s.args.equations s.args.lines s.args.places.now s.args.chosen.now s.args.columns.now (length s.args.free.now)
 
 returns : tie.Need-returns
 returns c =

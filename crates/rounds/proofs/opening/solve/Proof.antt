@@ -8,9 +8,9 @@ use lib.Ieee.{Float}
 use lib.ListN.{length, take, drop, replicate, length-take}
 use Rattle.floats.specs.Ops.{zero⁺}
 use Rattle.members.proofs.Sized.{sized}
-use Rattle.members.specs.Lists.{numbersOf}
-use Rattle.members.specs.Movable.{indicesOf}
-use Rattle.rounds.specs.Promise.{tooMany}
+use Rattle.members.specs.Lists.{numbers_of}
+use Rattle.members.specs.Movable.{indices_of}
+use Rattle.rounds.specs.Promise.{too_many}
 use Rattle.loops.proofs.Parts.{front, still-fits}
 use Rattle.rounds.proofs.Begins.{any-many, none-many, none-short, copied-front, copied-back, refused-many, refused-short, done-failed, done-converged}
 use borrow.Author.Rules.{rules}
@@ -19,12 +19,12 @@ use Rattle.rounds.proofs.opening.solve.Tie as tie
 
 -- a value's lists are never too long
 module _ (s : tie.Start) where
-  few : length (numbersOf s.args.p.chosen.0) ≤ 40
+  few : length (numbers_of s.args.p.chosen.0) ≤ 40
   few =
       let n : length s.args.p.chosen.0.items ≡ 40 = sized 40 s.args.p.chosen.0.items s.well-formed.0.1.1.1.1.0.1.1.0.1.1.0.1.0.1 in
       rw length-take (omega (arith, n))
 
-  narrow : length (indicesOf s.args.p.free) ≤ 80
+  narrow : length (indices_of s.args.p.free) ≤ 80
   narrow =
       let n : length s.args.p.free.items ≡ 80 = sized 80 s.args.p.free.items s.good.0.1.1.1.1.1.1.1.0.1.1.0.1.0.1 in
       rw length-take (omega (arith, n))
@@ -40,9 +40,9 @@ module _ (i : tie.Else1) where
   short : size ≤ 80
   short = i.if1.left
 
-  none : tooMany start.args.p.equations start.args.p.lines start.args.p.places start.args.p.columns (numbersOf start.args.p.chosen.0) (indicesOf start.args.p.free) start.args.x.now start.args.a.now start.args.b.now start.args.c.now ≡ false
+  none : too_many start.args.p.equations start.args.p.lines start.args.p.places start.args.p.columns (numbers_of start.args.p.chosen.0) (indices_of start.args.p.free) start.args.x.now start.args.a.now start.args.b.now start.args.c.now ≡ false
   none =
-      none-many start.args.p.equations start.args.p.lines start.args.p.places start.args.p.columns (numbersOf start.args.p.chosen.0) (indicesOf start.args.p.free) start.args.x.now start.args.a.now start.args.b.now start.args.c.now
+      none-many start.args.p.equations start.args.p.lines start.args.p.places start.args.p.columns (numbers_of start.args.p.chosen.0) (indices_of start.args.p.free) start.args.x.now start.args.a.now start.args.b.now start.args.c.now
       (few start) (narrow start) short
 
 -- the room with the coordinates at its head
@@ -74,15 +74,15 @@ returns : tie.Need-returns
 returns c =
     let i = c.before in
     let s = i.before.before.before.before.before in
-    refused-many s.args.p.equations s.args.p.lines s.args.p.places s.args.p.columns (numbersOf s.args.p.chosen.0) (indicesOf s.args.p.free) s.args.x.now s.args.a.now s.args.b.now s.args.c.now c.refused.result
-    (any-many s.args.p.equations s.args.p.lines s.args.p.places s.args.p.columns (numbersOf s.args.p.chosen.0) (indicesOf s.args.p.free) s.args.x.now s.args.a.now s.args.b.now s.args.c.now (few s) (narrow s) i.if1.true) c.refused.ensures
+    refused-many s.args.p.equations s.args.p.lines s.args.p.places s.args.p.columns (numbers_of s.args.p.chosen.0) (indices_of s.args.p.free) s.args.x.now s.args.a.now s.args.b.now s.args.c.now c.refused.result
+    (any-many s.args.p.equations s.args.p.lines s.args.p.places s.args.p.columns (numbers_of s.args.p.chosen.0) (indices_of s.args.p.free) s.args.x.now s.args.a.now s.args.b.now s.args.c.now (few s) (narrow s) i.if1.true) c.refused.ensures
 
 returns-2 : tie.Need-returns-2
 returns-2 c =
     let j = c.before in
     let i = j.before in
     let s = start i in
-    refused-short s.args.p.equations s.args.p.lines s.args.p.places s.args.p.columns (numbersOf s.args.p.chosen.0) (indicesOf s.args.p.free) s.args.x.now s.args.a.now s.args.b.now s.args.c.now (none i) c.refused2.result j.if2.true c.refused2.ensures
+    refused-short s.args.p.equations s.args.p.lines s.args.p.places s.args.p.columns (numbers_of s.args.p.chosen.0) (indices_of s.args.p.free) s.args.x.now s.args.a.now s.args.b.now s.args.c.now (none i) c.refused2.result j.if2.true c.refused2.ensures
 
 array-borrow-prefix-here : tie.Need-array-borrow-prefix-here
 array-borrow-prefix-here c = short c.before.before
@@ -113,7 +113,7 @@ returns-3 c =
     let j = k.before.before.before in
     let i = asked k in
     let s = start i in
-    done-failed s.args.p.equations s.args.p.lines s.args.p.places s.args.p.columns (numbersOf s.args.p.chosen.0) (indicesOf s.args.p.free) s.args.x.now s.args.a.now s.args.b.now s.args.c.now (none i) j.if2.left
+    done-failed s.args.p.equations s.args.p.lines s.args.p.places s.args.p.columns (numbers_of s.args.p.chosen.0) (indices_of s.args.p.free) s.args.x.now s.args.a.now s.args.b.now s.args.c.now (none i) j.if2.left
     (take (size i) (here k)) (ended e) e.in-areas.new.1.1.0 e.in-areas.new.1.1.1.0 e.in-areas.new.1.1.1.1.0 e.in-areas.result c.answer.result
     (copied-front s.args.x.now (replicate 80 zero⁺) k.copy.last.1.0 (short i) k.copy.ensures) e.in-areas.ensures c.answer.ensures (not-true e.in-areas.result.converged f.if3.true)
 
@@ -133,7 +133,7 @@ returns-4 c =
     let i = asked k in
     let s = start i in
     let long = e.in-areas.auto.1.0 ∙ sym (front (size i) (here k) (fits k)) in
-    done-converged s.args.p.equations s.args.p.lines s.args.p.places s.args.p.columns (numbersOf s.args.p.chosen.0) (indicesOf s.args.p.free) s.args.x.now s.args.a.now s.args.b.now s.args.c.now (none i) j.if2.left
+    done-converged s.args.p.equations s.args.p.lines s.args.p.places s.args.p.columns (numbers_of s.args.p.chosen.0) (indices_of s.args.p.free) s.args.x.now s.args.a.now s.args.b.now s.args.c.now (none i) j.if2.left
     (take (size i) (here k)) (ended e) e.in-areas.new.1.1.0 e.in-areas.new.1.1.1.0 e.in-areas.new.1.1.1.1.0 e.in-areas.result c.answer2.result
     (copied-front s.args.x.now (replicate 80 zero⁺) k.copy.last.1.0 (short i) k.copy.ensures) e.in-areas.ensures c.answer2.ensures x.copy2.new.1.0 (not-false e.in-areas.result.converged f.if3.false)
     (copied-back (ended e) s.args.x.now (drop (size i) (here k)) x.copy2.new.1.0 long x.copy2.ensures)

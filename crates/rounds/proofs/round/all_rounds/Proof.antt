@@ -8,8 +8,8 @@ use lib.ListN.{length, drop}
 use lib.Seq.{length_front}
 use borrow.Author.Rules.{rules}
 use Rattle.loops.proofs.Parts.{front}
-use Rattle.rounds.specs.Problem.{rowCount, valuesAt, jacobianAt, problemOf, state_of, triedOf}
-use Rattle.rounds.specs.Solve.{Problem, State, roundOf, roundsOf}
+use Rattle.rounds.specs.Problem.{row_count, values_at, jacobian_at, problem_of, state_of, tried_of}
+use Rattle.rounds.specs.Solve.{Problem, State, round_of, rounds_of}
 use Rattle.rounds.proofs.Around.{jacobian-found, round_is, round-counted, round-tried, round-owned, step_counts, rounds-stop, rounds-next, rounds-done}
 use Rattle.rounds.proofs.Turn.{reshaped, matched}
 use Rattle.rounds.proofs.round.all_rounds.Statement.{statement}
@@ -20,9 +20,9 @@ invariant-loop equations lines chosen places columns free x₀ r₀ j₀ h₀ w�
     (counter ≤ 200)
     × (f.iterations ≤ counter)
     × (f.tries ≤ 12 * counter)
-    × (r ≡ valuesAt equations lines places chosen x)
-    × (roundsOf (problemOf equations lines places chosen free (rowCount equations chosen)) (jacobianAt equations lines places chosen columns (length free)) (200 - counter) (state_of x r f)
-    ≡ roundsOf (problemOf equations lines places chosen free (rowCount equations chosen)) (jacobianAt equations lines places chosen columns (length free)) 200 (state_of x₀ r₀ f₀))
+    × (r ≡ values_at equations lines places chosen x)
+    × (rounds_of (problem_of equations lines places chosen free (row_count equations chosen)) (jacobian_at equations lines places chosen columns (length free)) (200 - counter) (state_of x r f)
+    ≡ rounds_of (problem_of equations lines places chosen free (row_count equations chosen)) (jacobian_at equations lines places chosen columns (length free)) 200 (state_of x₀ r₀ f₀))
     × (length x ≡ length x₀)
     × (length r ≡ length r₀)
     × (length j ≡ length j₀)
@@ -41,10 +41,10 @@ module _ (l : tie.At-loop invariant-loop decreases-loop) where
   began = l.before.before.before.before.before.before.before.before.before.before
 
   abbrev posed : Problem
-  posed = problemOf began.args.equations began.args.lines began.args.places.now began.args.chosen.now began.args.free.now (rowCount began.args.equations began.args.chosen.now)
+  posed = problem_of began.args.equations began.args.lines began.args.places.now began.args.chosen.now began.args.free.now (row_count began.args.equations began.args.chosen.now)
 
   abbrev gradients : List Float → List Float
-  gradients = jacobianAt began.args.equations began.args.lines began.args.places.now began.args.chosen.now began.args.columns.now (length began.args.free.now)
+  gradients = jacobian_at began.args.equations began.args.lines began.args.places.now began.args.chosen.now began.args.columns.now (length began.args.free.now)
 
   abbrev stands : State
   stands = state_of l.loop.x l.loop.r l.loop.f
@@ -99,7 +99,7 @@ module _ (k : tie.After-all-tries invariant-loop decreases-loop) where
   abbrev r-next : List Float
   r-next = k.all-tries.last.1.1.1.1.1.1.1.0
 
-  made : triedOf x-next r-next k.all-tries.result ≡ roundOf (posed turn) (gradients turn) (stands turn)
+  made : tried_of x-next r-next k.all-tries.result ≡ round_of (posed turn) (gradients turn) (stands turn)
   made =
       let d = k.before.before.before.before.before.before.before.before.before.before in
       let s = began turn in

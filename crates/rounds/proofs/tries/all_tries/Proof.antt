@@ -9,15 +9,15 @@ use lib.ListN.{length}
 use borrow.Author.Rules.{rules}
 use borrow.Author.Tests.{not-true, not-false}
 use Rattle.normal.specs.Half.{triangle, spread_of}
-use Rattle.normal.specs.Normal.{dampedOf}
+use Rattle.normal.specs.Normal.{damped_of}
 use Rattle.solver.specs.Promise.{Finds}
 use Rattle.solver.specs.declared.Elimination.{Elimination}
-use Rattle.rounds.specs.Inside.{begunFit, harderFit, triesAt}
-use Rattle.rounds.specs.Problem.{rowCount, problemOf, state_of, triedOf}
-use Rattle.rounds.specs.Solve.{Problem, State, Tried, tryOf, triesOf}
+use Rattle.rounds.specs.Inside.{begun_fit, harder_fit, tries_at}
+use Rattle.rounds.specs.Problem.{row_count, problem_of, state_of, tried_of}
+use Rattle.rounds.specs.Solve.{Problem, State, Tried, try_of, tries_of}
 use Rattle.rounds.proofs.Around.{product_found, diagonal-found}
 use Rattle.rounds.proofs.Trials.{no-trial, a-trial}
-use Rattle.rounds.proofs.Turn.{no-try, a-try, one_more, tries-next, tries-stop, tries-done, tries-are}
+use Rattle.rounds.proofs.Turn.{no-try, a-try, one-more, tries-next, tries-stop, tries-done, tries-are}
 use Rattle.rounds.proofs.tries.all_tries.Statement.{statement}
 use Rattle.rounds.proofs.tries.all_tries.Tie as tie
 
@@ -25,8 +25,8 @@ abbrev invariant-loop : tie.invariant-loop
 invariant-loop equations lines chosen places free j x₀ r₀ h w₀ xn₀ rn₀ rows m f₀ counter₀ x r w xn rn f counter =
     (counter ≤ 12)
     × (f.tries ≤ f₀.tries + counter)
-    × (triesOf (problemOf equations lines places chosen free (rowCount equations chosen)) j (spread_of (length r₀) h) m (12 - counter) (state_of x r f)
-    ≡ triesOf (problemOf equations lines places chosen free (rowCount equations chosen)) j (spread_of (length r₀) h) m 12 (state_of x₀ r₀ f₀))
+    × (tries_of (problem_of equations lines places chosen free (row_count equations chosen)) j (spread_of (length r₀) h) m (12 - counter) (state_of x r f)
+    ≡ tries_of (problem_of equations lines places chosen free (row_count equations chosen)) j (spread_of (length r₀) h) m 12 (state_of x₀ r₀ f₀))
     × (length x ≡ length x₀)
     × (length r ≡ length r₀)
     × (length w ≡ length w₀)
@@ -43,7 +43,7 @@ module _ (l : tie.At-loop invariant-loop decreases-loop) where
   began = l.before.before.before.before.before.before.before.before.before.before.before.before.before.before.before.before.before.before.before
 
   abbrev posed : Problem
-  posed = problemOf began.args.equations began.args.lines began.args.places.now began.args.chosen.now began.args.free.now (rowCount began.args.equations began.args.chosen.now)
+  posed = problem_of began.args.equations began.args.lines began.args.places.now began.args.chosen.now began.args.free.now (row_count began.args.equations began.args.chosen.now)
 
   abbrev jacobian : List Float
   jacobian = began.args.j.now
@@ -60,7 +60,7 @@ module _ (l : tie.At-loop invariant-loop decreases-loop) where
   abbrev stands : State
   stands = state_of l.loop.x l.loop.r l.loop.f
 
-  count : length l.loop.r ≡ rowCount began.args.equations began.args.chosen.now
+  count : length l.loop.r ≡ row_count began.args.equations began.args.chosen.now
   count = l.loop.inv.4 ∙ began.pre.0.counted
 
   few : length l.loop.r ≤ 80
@@ -70,8 +70,8 @@ module _ (l : tie.At-loop invariant-loop decreases-loop) where
   half-long = rw l.loop.inv.4 (l.before.before.before.before.before.before.before.product.kept.1.0 ∙ began.pre.1.half-long)
 
   -- every try has as many residuals as the first
-  found_at : (m mu : Float) (y : List Float) (e : Elimination) → Finds (length l.loop.r) (dampedOf (length l.loop.r) mu m (spread_of (length l.loop.r) half)) l.loop.r y e
-      → Finds (length l.loop.r) (dampedOf (length l.loop.r) mu m product) l.loop.r y e
+  found_at : (m mu : Float) (y : List Float) (e : Elimination) → Finds (length l.loop.r) (damped_of (length l.loop.r) mu m (spread_of (length l.loop.r) half)) l.loop.r y e
+      → Finds (length l.loop.r) (damped_of (length l.loop.r) mu m product) l.loop.r y e
   found_at m mu y e f = rw (← l.loop.inv.4) f
 
   bound : l.loop.f.tries ≤ 2412
@@ -80,8 +80,8 @@ module _ (l : tie.At-loop invariant-loop decreases-loop) where
       omega (arith, h, l.loop.inv.0, l.loop.inv.1)
 
   -- the tries are those of the Jacobian's product
-  whole : (T : Tried) → T ≡ triesOf posed jacobian product top 12 (state_of began.args.x.now began.args.r.now l.before.begun.result)
-      → T ≡ triesAt posed jacobian (state_of began.args.x.now began.args.r.now (begunFit began.args.fit))
+  whole : (T : Tried) → T ≡ tries_of posed jacobian product top 12 (state_of began.args.x.now began.args.r.now l.before.begun.result)
+      → T ≡ tries_at posed jacobian (state_of began.args.x.now began.args.r.now (begun_fit began.args.fit))
   whole T e =
       let d = l.before.before.before in
       let p = l.before.before.before.before.before.before.before in
@@ -125,7 +125,7 @@ loop-again c =
       omega (arith, t.loop-test.true),
       rw c.harder.ensures (omega (arith, l.loop.invariant.1)),
       tries-next (posed l) (jacobian l) (product l) (top l) l.loop.counter (stands l) l.loop.x l.loop.r (record { improved = false; fit = c.harder.result }) _ t.loop-test.true
-          (no-try (posed l) (jacobian l) (product l) (top l) l.loop.x l.loop.r l.loop.f c.harder.result _ none (c.harder.ensures ∙ ap (λ w. harderFit w l.loop.f) c.before.lack.ensures)) l.loop.invariant.2 refl,
+          (no-try (posed l) (jacobian l) (product l) (top l) l.loop.x l.loop.r l.loop.f c.harder.result _ none (c.harder.ensures ∙ ap (λ w. harder_fit w l.loop.f) c.before.lack.ensures)) l.loop.invariant.2 refl,
       l.loop.invariant.3,
       l.loop.invariant.4,
       e.eliminated.auto.1.1.0 ∙ l.loop.invariant.5,
@@ -164,7 +164,7 @@ module _ (o : tie.After-one-try invariant-loop decreases-loop) where
   abbrev r-next : List Float
   r-next = o.one-try.last.1.1.1.1.1.1.1.0
 
-  made : triedOf x-next r-next o.one-try.result ≡ tryOf (posed turn) (jacobian turn) (product turn) (top turn) (stands turn)
+  made : tried_of x-next r-next o.one-try.result ≡ try_of (posed turn) (jacobian turn) (product turn) (top turn) (stands turn)
   made =
       let e = o.before.before.before.before.before.before.before.before.before.before.before in
       let some = a-trial (posed turn) (jacobian turn) (product turn) turn.loop.x turn.loop.r e.eliminated.last.1.1.1.0 (top turn) turn.loop.f.mu e.eliminated.result (length turn.loop.r) (count turn)
@@ -221,7 +221,7 @@ loop-again-2 c =
     let o = c.before.before.before.before.before.before.before.before.before.before in
     let l = turn o in
     let t = c.before.before.before.before.before.before.before.before.before.before.before.before.before.before.before.before.before.before.before.before.before.before.before.before.before.before in
-    let q = one_more (posed l) (jacobian l) (product l) (top l) (stands l) (x-next o) (r-next o) o.one-try.result (made o) in (
+    let q = one-more (posed l) (jacobian l) (product l) (top l) (stands l) (x-next o) (r-next o) o.one-try.result (made o) in (
       omega (arith, t.loop-test.true),
       omega (arith, q, l.loop.inv.1),
       tries-next (posed l) (jacobian l) (product l) (top l) l.loop.counter (stands l) (x-next o) (r-next o) o.one-try.result _ t.loop-test.true (made o) l.loop.inv.2 c.before.if2.false,

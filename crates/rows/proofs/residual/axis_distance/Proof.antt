@@ -1,12 +1,12 @@
 -- What the calls promise, from the last to the first. Assumes nothing.
 use borrow.Author.Rules.{rules}
 use Rattle.rows.specs.Entries.{values_of}
-use Rattle.rows.specs.Kinds.{axisDistanceOf}
+use Rattle.rows.specs.Kinds.{axis_distance_of}
 use Rattle.rows.proofs.residual.axis_distance.Statement.{statement}
 use Rattle.rows.proofs.residual.axis_distance.Tie as tie
 
 returns : tie.Need-returns
-unfolding axisDistanceOf values_of
+unfolding axis_distance_of values_of
 returns c = rw (c.one.ensures, c.before.along-axis2.ensures, c.before.before.at2.ensures, c.before.before.before.along-axis.ensures, c.before.before.before.before.at.ensures)
 
 pub axis-distance-spec : {M : Type 1} → statement M

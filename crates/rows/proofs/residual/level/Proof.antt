@@ -1,12 +1,12 @@
 -- What the calls promise, from the last to the first. Assumes nothing.
 use borrow.Author.Rules.{rules}
 use Rattle.rows.specs.Entries.{values_of}
-use Rattle.rows.specs.Kinds.{levelKindOf}
+use Rattle.rows.specs.Kinds.{level_kind_of}
 use Rattle.rows.proofs.residual.level.Statement.{statement}
 use Rattle.rows.proofs.residual.level.Tie as tie
 
 returns : tie.Need-returns
-unfolding levelKindOf values_of
+unfolding level_kind_of values_of
 returns c = rw (c.one.ensures, c.before.along-axis2.ensures, c.before.before.at2.ensures, c.before.before.before.along-axis.ensures, c.before.before.before.before.at.ensures)
 
 pub level-spec : {M : Type 1} → statement M

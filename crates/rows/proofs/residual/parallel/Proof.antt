@@ -1,12 +1,12 @@
 -- What the calls promise, from the last to the first. Assumes nothing.
 use borrow.Author.Rules.{rules}
 use Rattle.rows.specs.Entries.{values_of}
-use Rattle.rows.specs.Kinds.{parallelOf}
+use Rattle.rows.specs.Kinds.{parallel_of}
 use Rattle.rows.proofs.residual.parallel.Statement.{statement}
 use Rattle.rows.proofs.residual.parallel.Tie as tie
 
 returns : tie.Need-returns
-unfolding parallelOf values_of
+unfolding parallel_of values_of
 returns c = rw (c.one.ensures, c.before.cross.ensures, c.before.before.dir2.ensures, c.before.before.before.dir.ensures)
 
 pub parallel-spec : {M : Type 1} → statement M

@@ -1,12 +1,12 @@
 -- What the calls promise, from the last to the first. Assumes nothing.
 use borrow.Author.Rules.{rules}
 use Rattle.rows.specs.Entries.{values_of}
-use Rattle.rows.specs.Kinds.{radiusKindOf}
+use Rattle.rows.specs.Kinds.{radius_kind_of}
 use Rattle.rows.proofs.residual.radius.Statement.{statement}
 use Rattle.rows.proofs.residual.radius.Tie as tie
 
 returns : tie.Need-returns
-unfolding radiusKindOf values_of
+unfolding radius_kind_of values_of
 returns c = rw (c.one.ensures, c.before.apart.ensures)
 
 pub radius-spec : {M : Type 1} → statement M

@@ -9,8 +9,8 @@ use Rattle.loops.proofs.Picks.{pick_yes, pick_no}
 use Rattle.loops.specs.Turns.{fold}
 use Rattle.loops.proofs.Turning.{fold_done}
 use Rattle.sketch.specs.declared.Active.{Active}
-use Rattle.rows.specs.Column.{laid, nextValue, valuesNext, columnOf}
-use Rattle.sketch.specs.Blank.{blankActive}
+use Rattle.rows.specs.Column.{laid, next_value, values_next, column_of}
+use Rattle.sketch.specs.Blank.{blank_active}
 use Rattle.rows.specs.Located.{at_of}
 use Rattle.rows.proofs.Found.{found_rows}
 use Rattle.rows.proofs.Held.{values-turn, values-past}
@@ -20,13 +20,13 @@ use Rattle.rows.proofs.sweep.residuals.Tie as tie
 abbrev invariant-loop : tie.invariant-loop
 invariant-loop chosen places x r₀ equations lines row₀ i₀ i-end r row i =
     (i ≤ i-end) × (row ≤ 2 * i) × (length r ≡ length r₀)
-    × (fold (valuesNext equations lines places x) (laid row r) (drop i chosen) ≡ fold (valuesNext equations lines places x) (laid 0 r₀) chosen)
+    × (fold (values_next equations lines places x) (laid row r) (drop i chosen) ≡ fold (values_next equations lines places x) (laid 0 r₀) chosen)
 
 abbrev decreases-loop : tie.decreases-loop
 decreases-loop chosen places x r₀ equations lines row₀ i₀ i-end r row i = i-end - i
 
 returns : tie.Need-returns invariant-loop decreases-loop
-unfolding columnOf
+unfolding column_of
 returns c = pick_yes _ _ _ _ (lt-ltb _ _ c.if1.true) refl
 
 loop-holds : tie.Need-loop-init invariant-loop decreases-loop
@@ -59,15 +59,15 @@ loop-again-2 c =
       search rules,
       search rules,
       values-turn a.t1 a.t2 a.places.now a.x.now a.chosen.now l.i (search rules) _ _ _ _ _ _
-          (ap (λ (e : Active). e.equation) (any-default a.t1 _ _ blankActive (search rules))) (v.0 ∙ ap (fold nextValue _) rows) l.invariant.3,
+          (ap (λ (e : Active). e.equation) (any-default a.t1 _ _ blank_active (search rules))) (v.0 ∙ ap (fold next_value _) rows) l.invariant.3,
     )
 
 returns-2 : tie.Need-returns-2 invariant-loop decreases-loop
-unfolding columnOf
+unfolding column_of
 returns-2 c =
     let a = c.before.before.before.before.before.before.before.args in
     pick_no _ _ _ _ (le-ltb _ _ c.before.before.if1.false)
-    (fold_done (valuesNext a.t1 a.t2 a.places.now a.x.now) a.chosen.now c.before.loop.i _ _ (search rules) c.before.loop.invariant.3)
+    (fold_done (values_next a.t1 a.t2 a.places.now a.x.now) a.chosen.now c.before.loop.i _ _ (search rules) c.before.loop.invariant.3)
 
 pub residuals-spec : {M : Type 1} → statement M
 residuals-spec =

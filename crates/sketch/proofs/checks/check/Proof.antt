@@ -2,13 +2,13 @@
 use mathlib.Core.Bool.{not}
 use mathlib.Core.Path.{sym, ap, ◌∙◌}
 use borrow.Author.Rules.{rules}
-use Rattle.sketch.specs.Check.{checkOf}
+use Rattle.sketch.specs.Check.{check_of}
 use Rattle.sketch.proofs.Given.{checks}
 use Rattle.sketch.proofs.checks.check.Statement.{statement}
 use Rattle.sketch.proofs.checks.check.Tie as tie
 
 returns : tie.Need-returns
-unfolding checkOf
+unfolding check_of
 returns c = checks _ _ (rw (sym c.before.counts-over.ensures ∙ c.if1.true))
 
 build-bounded-requires : tie.Need-build-bounded-requires
@@ -21,7 +21,7 @@ rows-over-requires : tie.Need-rows-over-requires
 rows-over-requires c κs = sym c.before.before.before.counts-over.ensures ∙ c.before.before.if1.false
 
 returns-2 : tie.Need-returns-2
-unfolding checkOf
+unfolding check_of
 returns-2 c =
     let r = c.before in
     let f = r.before in

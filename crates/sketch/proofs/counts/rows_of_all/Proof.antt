@@ -8,7 +8,7 @@ use lib.ListN.{length, get_or, take, drop}
 use lib.Seq.{length-take-le, get_or-take}
 use Rattle.loops.specs.Turns.{fold}
 use Rattle.loops.proofs.Turning.{fold_next, fold_done}
-use Rattle.sketch.specs.Rows.{rows_of, moreRows}
+use Rattle.sketch.specs.Rows.{rows_of, more_rows}
 use Rattle.sketch.specs.declared.Active.{Active}
 use Rattle.sketch.specs.declared.Equation.{Equation}
 use Rattle.sketch.proofs.AtMostTwo.{two-at-most}
@@ -19,18 +19,18 @@ small : (r : ℕ) (e : Equation) → r ≡ rows_of e → r ≤ 2
 small r e h = omega (arith, two-at-most e)
 
 turn : (l : List Active) (d : Active) (n i s r R : ℕ) → r ≡ rows_of (get_or l i d).equation → i < n → n ≤ length l
-    → fold moreRows s (drop i (take n l)) ≡ R → fold moreRows (s + r) (drop (i + 1) (take n l)) ≡ R
-unfolding moreRows
+    → fold more_rows s (drop i (take n l)) ≡ R → fold more_rows (s + r) (drop (i + 1) (take n l)) ≡ R
+unfolding more_rows
 turn l d n i s r R e h f q =
-    fold_next d moreRows (take n l) i s (s + r) R (rw (length-take-le n l f) h)
+    fold_next d more_rows (take n l) i s (s + r) R (rw (length-take-le n l f) h)
     (rw (get_or-take n l i d h) (ap (λ x. s + x) e)) q
 
-done : (l : List Active) (n i s R : ℕ) → n ≤ i → n ≤ length l → fold moreRows s (drop i (take n l)) ≡ R → s ≡ R
-done l n i s R h f q = fold_done moreRows (take n l) i s R (rw (length-take-le n l f) h) q
+done : (l : List Active) (n i s R : ℕ) → n ≤ i → n ≤ length l → fold more_rows s (drop i (take n l)) ≡ R → s ≡ R
+done l n i s R h f q = fold_done more_rows (take n l) i s R (rw (length-take-le n l f) h) q
 
 abbrev invariant-loop : tie.invariant-loop
 invariant-loop n equations total₀ i₀ total i =
-    (i ≤ n) × (total ≤ 2 * i) × (fold moreRows total (drop i (take n equations)) ≡ fold moreRows 0 (take n equations))
+    (i ≤ n) × (total ≤ 2 * i) × (fold more_rows total (drop i (take n equations)) ≡ fold more_rows 0 (take n equations))
 
 abbrev decreases-loop : tie.decreases-loop
 decreases-loop n equations total₀ i₀ total i = n - i

@@ -4,13 +4,13 @@ use mathlib.Core.Path.{◌≡◌, refl}
 use borrow.Author.Rules.{rules}
 use lib.ListN.{take, drop}
 use Rattle.loops.specs.Turns.{every}
-use Rattle.sketch.specs.Indices.{foundLine}
+use Rattle.sketch.specs.Indices.{found_line}
 use Rattle.sketch.proofs.Taken.{taken_next, taken-stop, taken-done}
 use Rattle.sketch.proofs.indices.lines_found.Statement.{statement}
 use Rattle.sketch.proofs.indices.lines_found.Tie as tie
 
 abbrev invariant-loop : tie.invariant-loop
-invariant-loop k n lines i₀ i = (i ≤ k) × (every (foundLine n) (drop i (take k lines)) ≡ every (foundLine n) (take k lines))
+invariant-loop k n lines i₀ i = (i ≤ k) × (every (found_line n) (drop i (take k lines)) ≡ every (found_line n) (take k lines))
 
 abbrev decreases-loop : tie.decreases-loop
 decreases-loop k n lines i₀ i = k - i
@@ -19,18 +19,18 @@ returns : tie.Need-returns invariant-loop decreases-loop
 returns c =
     let a = c.before.before.before.before.before.args in
     let l = c.before.before.before.before.loop in
-    taken-stop (foundLine a.n) a.t1 _ a.k l.i _ _ c.before.line-found.ensures c.if1.true (search rules) (search rules) l.invariant.1
+    taken-stop (found_line a.n) a.t1 _ a.k l.i _ _ c.before.line-found.ensures c.if1.true (search rules) (search rules) l.invariant.1
 
 loop-again : tie.Need-loop-preserved invariant-loop decreases-loop
 loop-again c =
     let a = c.before.before.before.before.before.args in
     let l = c.before.before.before.before.loop in
-    (search rules, taken_next (foundLine a.n) a.t1 _ a.k l.i _ _ c.before.line-found.ensures c.if1.false (search rules) (search rules) l.invariant.1)
+    (search rules, taken_next (found_line a.n) a.t1 _ a.k l.i _ _ c.before.line-found.ensures c.if1.false (search rules) (search rules) l.invariant.1)
 
 returns-2 : tie.Need-returns-2 invariant-loop decreases-loop
 returns-2 c =
     let a = c.before.before.args in
-    taken-done (foundLine a.n) a.t1 a.k c.before.loop.i _ (search rules) (search rules) c.before.loop.invariant.1
+    taken-done (found_line a.n) a.t1 a.k c.before.loop.i _ (search rules) (search rules) c.before.loop.invariant.1
 
 pub lines-found-spec : {M : Type 1} → statement M
 lines-found-spec =

@@ -4,13 +4,13 @@ use mathlib.Core.Path.{◌≡◌, refl}
 use borrow.Author.Rules.{rules}
 use lib.ListN.{take, drop}
 use Rattle.loops.specs.Turns.{every}
-use Rattle.sketch.specs.Indices.{foundMeasured}
+use Rattle.sketch.specs.Indices.{found_measured}
 use Rattle.sketch.proofs.Taken.{taken_next, taken-stop, taken-done}
 use Rattle.sketch.proofs.indices.measures_found.Statement.{statement}
 use Rattle.sketch.proofs.indices.measures_found.Tie as tie
 
 abbrev invariant-loop : tie.invariant-loop
-invariant-loop k n m measures i₀ i = (i ≤ k) × (every (foundMeasured n m) (drop i (take k measures)) ≡ every (foundMeasured n m) (take k measures))
+invariant-loop k n m measures i₀ i = (i ≤ k) × (every (found_measured n m) (drop i (take k measures)) ≡ every (found_measured n m) (take k measures))
 
 abbrev decreases-loop : tie.decreases-loop
 decreases-loop k n m measures i₀ i = k - i
@@ -19,18 +19,18 @@ returns : tie.Need-returns invariant-loop decreases-loop
 returns c =
     let a = c.before.before.before.before.before.args in
     let l = c.before.before.before.before.loop in
-    taken-stop (foundMeasured a.n a.m) a.t1 _ a.k l.i _ _ c.before.measure-found.ensures c.if1.true (search rules) (search rules) l.invariant.1
+    taken-stop (found_measured a.n a.m) a.t1 _ a.k l.i _ _ c.before.measure-found.ensures c.if1.true (search rules) (search rules) l.invariant.1
 
 loop-again : tie.Need-loop-preserved invariant-loop decreases-loop
 loop-again c =
     let a = c.before.before.before.before.before.args in
     let l = c.before.before.before.before.loop in
-    (search rules, taken_next (foundMeasured a.n a.m) a.t1 _ a.k l.i _ _ c.before.measure-found.ensures c.if1.false (search rules) (search rules) l.invariant.1)
+    (search rules, taken_next (found_measured a.n a.m) a.t1 _ a.k l.i _ _ c.before.measure-found.ensures c.if1.false (search rules) (search rules) l.invariant.1)
 
 returns-2 : tie.Need-returns-2 invariant-loop decreases-loop
 returns-2 c =
     let a = c.before.before.args in
-    taken-done (foundMeasured a.n a.m) a.t1 a.k c.before.loop.i _ (search rules) (search rules) c.before.loop.invariant.1
+    taken-done (found_measured a.n a.m) a.t1 a.k c.before.loop.i _ (search rules) (search rules) c.before.loop.invariant.1
 
 pub measures-found-spec : {M : Type 1} → statement M
 measures-found-spec =

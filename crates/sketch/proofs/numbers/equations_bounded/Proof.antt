@@ -4,13 +4,13 @@ use mathlib.Core.Path.{◌≡◌, refl}
 use borrow.Author.Rules.{rules}
 use lib.ListN.{take, drop}
 use Rattle.loops.specs.Turns.{every}
-use Rattle.sketch.specs.Numbers.{boundedActive}
+use Rattle.sketch.specs.Numbers.{bounded_active}
 use Rattle.sketch.proofs.Taken.{taken_next, taken-stop, taken-done}
 use Rattle.sketch.proofs.numbers.equations_bounded.Statement.{statement}
 use Rattle.sketch.proofs.numbers.equations_bounded.Tie as tie
 
 abbrev invariant-loop : tie.invariant-loop
-invariant-loop n equations i₀ i = (i ≤ n) × (every boundedActive (drop i (take n equations)) ≡ every boundedActive (take n equations))
+invariant-loop n equations i₀ i = (i ≤ n) × (every bounded_active (drop i (take n equations)) ≡ every bounded_active (take n equations))
 
 abbrev decreases-loop : tie.decreases-loop
 decreases-loop n equations i₀ i = n - i
@@ -19,18 +19,18 @@ returns : tie.Need-returns invariant-loop decreases-loop
 returns c =
     let a = c.before.before.before.before.before.args in
     let l = c.before.before.before.before.loop in
-    taken-stop boundedActive a.t1 _ a.n l.i _ _ c.before.equation-bounded.ensures c.if1.true (search rules) (search rules) l.invariant.1
+    taken-stop bounded_active a.t1 _ a.n l.i _ _ c.before.equation-bounded.ensures c.if1.true (search rules) (search rules) l.invariant.1
 
 loop-again : tie.Need-loop-preserved invariant-loop decreases-loop
 loop-again c =
     let a = c.before.before.before.before.before.args in
     let l = c.before.before.before.before.loop in
-    (search rules, taken_next boundedActive a.t1 _ a.n l.i _ _ c.before.equation-bounded.ensures c.if1.false (search rules) (search rules) l.invariant.1)
+    (search rules, taken_next bounded_active a.t1 _ a.n l.i _ _ c.before.equation-bounded.ensures c.if1.false (search rules) (search rules) l.invariant.1)
 
 returns-2 : tie.Need-returns-2 invariant-loop decreases-loop
 returns-2 c =
     let a = c.before.before.args in
-    taken-done boundedActive a.t1 a.n c.before.loop.i _ (search rules) (search rules) c.before.loop.invariant.1
+    taken-done bounded_active a.t1 a.n c.before.loop.i _ (search rules) (search rules) c.before.loop.invariant.1
 
 pub equations-bounded-spec : {M : Type 1} → statement M
 equations-bounded-spec =

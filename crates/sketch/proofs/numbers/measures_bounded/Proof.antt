@@ -4,13 +4,13 @@ use mathlib.Core.Path.{◌≡◌, refl}
 use borrow.Author.Rules.{rules}
 use lib.ListN.{take, drop}
 use Rattle.loops.specs.Turns.{every}
-use Rattle.sketch.specs.Numbers.{boundedMeasured}
+use Rattle.sketch.specs.Numbers.{bounded_measured}
 use Rattle.sketch.proofs.Taken.{taken_next, taken-stop, taken-done}
 use Rattle.sketch.proofs.numbers.measures_bounded.Statement.{statement}
 use Rattle.sketch.proofs.numbers.measures_bounded.Tie as tie
 
 abbrev invariant-loop : tie.invariant-loop
-invariant-loop n measures i₀ i = (i ≤ n) × (every boundedMeasured (drop i (take n measures)) ≡ every boundedMeasured (take n measures))
+invariant-loop n measures i₀ i = (i ≤ n) × (every bounded_measured (drop i (take n measures)) ≡ every bounded_measured (take n measures))
 
 abbrev decreases-loop : tie.decreases-loop
 decreases-loop n measures i₀ i = n - i
@@ -19,18 +19,18 @@ returns : tie.Need-returns invariant-loop decreases-loop
 returns c =
     let a = c.before.before.before.before.before.args in
     let l = c.before.before.before.before.loop in
-    taken-stop boundedMeasured a.t1 _ a.n l.i _ _ c.before.measure-bounded.ensures c.if1.true (search rules) (search rules) l.invariant.1
+    taken-stop bounded_measured a.t1 _ a.n l.i _ _ c.before.measure-bounded.ensures c.if1.true (search rules) (search rules) l.invariant.1
 
 loop-again : tie.Need-loop-preserved invariant-loop decreases-loop
 loop-again c =
     let a = c.before.before.before.before.before.args in
     let l = c.before.before.before.before.loop in
-    (search rules, taken_next boundedMeasured a.t1 _ a.n l.i _ _ c.before.measure-bounded.ensures c.if1.false (search rules) (search rules) l.invariant.1)
+    (search rules, taken_next bounded_measured a.t1 _ a.n l.i _ _ c.before.measure-bounded.ensures c.if1.false (search rules) (search rules) l.invariant.1)
 
 returns-2 : tie.Need-returns-2 invariant-loop decreases-loop
 returns-2 c =
     let a = c.before.before.args in
-    taken-done boundedMeasured a.t1 a.n c.before.loop.i _ (search rules) (search rules) c.before.loop.invariant.1
+    taken-done bounded_measured a.t1 a.n c.before.loop.i _ (search rules) (search rules) c.before.loop.invariant.1
 
 pub measures-bounded-spec : {M : Type 1} → statement M
 measures-bounded-spec =

@@ -1,9 +1,9 @@
 -- What the calls promise, from the last to the first. Assumes nothing.
 use mathlib.Core.Path.{◌∙◌}
 use Rattle.loops.specs.Turns.{fold}
-use Rattle.rows.specs.Kinds.{arcArcAtOf}
+use Rattle.rows.specs.Kinds.{arc_arc_at_of}
 use Rattle.slopes.specs.Arms.{rows_from}
-use Rattle.slopes.specs.Dense.{rowInto}
+use Rattle.slopes.specs.Dense.{row_into}
 use Rattle.slopes.proofs.Held.{within}
 use Rattle.slopes.proofs.arms.arc_arc_at.Statement.{statement}
 use Rattle.slopes.proofs.arms.arc_arc_at.Tie as tie
@@ -17,7 +17,7 @@ same_length c =
     push3.push3.auto.0 ∙ push2.push2.auto.0 ∙ push.push.auto.0 ∙ clear-row.clear-row.auto.0
 
 returns : tie.Need-returns
-unfolding arcArcAtOf rows_from rowInto fold
+unfolding arc_arc_at_of rows_from row_into fold
 returns c =
     let push3 = c.before.before in
     let neg2 = push3.before in

@@ -2,9 +2,9 @@
 use mathlib.Core.Path.{◌∙◌}
 use Rattle.loops.specs.Turns.{fold}
 use Rattle.loops.proofs.Turning.{fold-append}
-use Rattle.rows.specs.Kinds.{circleCircleOf}
+use Rattle.rows.specs.Kinds.{circle_circle_of}
 use Rattle.slopes.specs.Arms.{rows_from}
-use Rattle.slopes.specs.Dense.{rowInto}
+use Rattle.slopes.specs.Dense.{row_into}
 use Rattle.slopes.proofs.Held.{within}
 use Rattle.slopes.proofs.arms.circle_circle.Statement.{statement}
 use Rattle.slopes.proofs.arms.circle_circle.Tie as tie
@@ -19,7 +19,7 @@ same_length c =
     radius2.radius2.auto.0 ∙ radius.radius.auto.0 ∙ push2.push2.auto.0 ∙ push.push.auto.0 ∙ clear-row.clear-row.auto.0
 
 returns : tie.Need-returns
-unfolding circleCircleOf rows_from rowInto fold
+unfolding circle_circle_of rows_from row_into fold
 returns c =
     let radius2 = c.before.before in
     let second-sign = radius2.before in

@@ -1,8 +1,8 @@
 -- A row after the other: what the calls promise, from the last to the first. Assumes nothing.
 use mathlib.Core.Path.{◌∙◌}
 use Rattle.loops.specs.Turns.{fold}
-use Rattle.rows.specs.Kinds.{collinearOf}
-use Rattle.slopes.specs.Dense.{rowInto}
+use Rattle.rows.specs.Kinds.{collinear_of}
+use Rattle.slopes.specs.Dense.{row_into}
 use Rattle.slopes.proofs.Held.{within, two-rows}
 use Rattle.slopes.proofs.arms.collinear.Statement.{statement}
 use Rattle.slopes.proofs.arms.collinear.Tie as tie
@@ -18,7 +18,7 @@ same_length c =
     push2.push2.auto.0 ∙ push.push.auto.0 ∙ through1.through1.auto.0 ∙ clear-row2.clear-row2.auto.0 ∙ through2.through2.auto.0 ∙ clear-row.clear-row.auto.0
 
 returns : tie.Need-returns
-unfolding collinearOf rowInto fold
+unfolding collinear_of row_into fold
 returns c =
     let push2 = c.before.before in
     let neg = push2.before in

@@ -3,7 +3,7 @@ use mathlib.Core.Path.{◌∙◌}
 use Rattle.loops.specs.Turns.{fold}
 use Rattle.rows.specs.Kinds.{equal_of}
 use Rattle.slopes.specs.Arms.{rows_from}
-use Rattle.slopes.specs.Dense.{rowInto}
+use Rattle.slopes.specs.Dense.{row_into}
 use Rattle.slopes.proofs.Held.{within}
 use Rattle.slopes.proofs.arms.equal.Statement.{statement}
 use Rattle.slopes.proofs.arms.equal.Tie as tie
@@ -18,7 +18,7 @@ same_length c =
     push4.push4.auto.0 ∙ push3.push3.auto.0 ∙ push2.push2.auto.0 ∙ push.push.auto.0 ∙ clear-row.clear-row.auto.0
 
 returns : tie.Need-returns
-unfolding equal_of rows_from rowInto fold
+unfolding equal_of rows_from row_into fold
 returns c =
     let push4 = c.before.before in
     let push3 = push4.before.before.before.before in

@@ -3,13 +3,13 @@ use borrow.Author.Rules.{rules}
 use Rattle.loops.specs.Turns.{fold}
 use Rattle.rows.specs.Kinds.{length_of}
 use Rattle.slopes.specs.Arms.{rows_from}
-use Rattle.slopes.specs.Dense.{rowInto}
+use Rattle.slopes.specs.Dense.{row_into}
 use Rattle.slopes.proofs.Held.{within}
 use Rattle.slopes.proofs.arms.length.Statement.{statement}
 use Rattle.slopes.proofs.arms.length.Tie as tie
 
 returns : tie.Need-returns
-unfolding length_of rows_from rowInto fold
+unfolding length_of rows_from row_into fold
 returns c =
     let push2 = c.before.before in
     let neg = push2.before in

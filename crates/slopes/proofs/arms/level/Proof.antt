@@ -1,15 +1,15 @@
 -- What the calls promise, from the last to the first. Assumes nothing.
 use borrow.Author.Rules.{rules}
 use Rattle.loops.specs.Turns.{fold}
-use Rattle.rows.specs.Kinds.{levelKindOf}
+use Rattle.rows.specs.Kinds.{level_kind_of}
 use Rattle.slopes.specs.Arms.{rows_from}
-use Rattle.slopes.specs.Dense.{rowInto}
+use Rattle.slopes.specs.Dense.{row_into}
 use Rattle.slopes.proofs.Held.{within}
 use Rattle.slopes.proofs.arms.level.Statement.{statement}
 use Rattle.slopes.proofs.arms.level.Tie as tie
 
 returns : tie.Need-returns
-unfolding levelKindOf rows_from rowInto fold
+unfolding level_kind_of rows_from row_into fold
 returns c =
     let push2 = c.before.before in
     let push = push2.before.before.before.before in

@@ -1,9 +1,9 @@
 -- What the calls promise, from the last to the first. Assumes nothing.
 use mathlib.Core.Path.{◌∙◌}
 use Rattle.loops.specs.Turns.{fold}
-use Rattle.rows.specs.Kinds.{lineCircleOf}
+use Rattle.rows.specs.Kinds.{line_circle_of}
 use Rattle.slopes.specs.Arms.{rows_from}
-use Rattle.slopes.specs.Dense.{rowInto}
+use Rattle.slopes.specs.Dense.{row_into}
 use Rattle.slopes.proofs.Held.{within}
 use Rattle.slopes.proofs.arms.line_circle.Statement.{statement}
 use Rattle.slopes.proofs.arms.line_circle.Tie as tie
@@ -18,7 +18,7 @@ same_length c =
     radius.radius.auto.0 ∙ push2.push2.auto.0 ∙ push.push.auto.0 ∙ through1.through1.auto.0 ∙ clear-row.clear-row.auto.0
 
 returns : tie.Need-returns
-unfolding lineCircleOf rows_from rowInto fold
+unfolding line_circle_of rows_from row_into fold
 returns c =
     let radius = c.before.before in
     let push2 = radius.before.before.before.before in

@@ -1,8 +1,8 @@
 -- A row after the other: what the calls promise, from the last to the first. Assumes nothing.
 use mathlib.Core.Path.{◌∙◌}
 use Rattle.loops.specs.Turns.{fold}
-use Rattle.rows.specs.Kinds.{midpointOf}
-use Rattle.slopes.specs.Dense.{rowInto}
+use Rattle.rows.specs.Kinds.{midpoint_of}
+use Rattle.slopes.specs.Dense.{row_into}
 use Rattle.slopes.proofs.Held.{within, two-rows}
 use Rattle.slopes.proofs.arms.midpoint.Statement.{statement}
 use Rattle.slopes.proofs.arms.midpoint.Tie as tie
@@ -20,7 +20,7 @@ same_length c =
     push6.push6.auto.0 ∙ push5.push5.auto.0 ∙ push4.push4.auto.0 ∙ clear-row2.clear-row2.auto.0 ∙ push3.push3.auto.0 ∙ push2.push2.auto.0 ∙ push.push.auto.0 ∙ clear-row.clear-row.auto.0
 
 returns : tie.Need-returns
-unfolding midpointOf rowInto fold
+unfolding midpoint_of row_into fold
 returns c =
     let push6 = c.before.before in
     let push5 = push6.before.before.before.before in

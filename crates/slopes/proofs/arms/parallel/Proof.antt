@@ -1,15 +1,15 @@
 -- What the calls promise, from the last to the first. Assumes nothing.
 use borrow.Author.Rules.{rules}
 use Rattle.loops.specs.Turns.{fold}
-use Rattle.rows.specs.Kinds.{parallelOf}
+use Rattle.rows.specs.Kinds.{parallel_of}
 use Rattle.slopes.specs.Arms.{rows_from}
-use Rattle.slopes.specs.Dense.{rowInto}
+use Rattle.slopes.specs.Dense.{row_into}
 use Rattle.slopes.proofs.Held.{within}
 use Rattle.slopes.proofs.arms.parallel.Statement.{statement}
 use Rattle.slopes.proofs.arms.parallel.Tie as tie
 
 returns : tie.Need-returns
-unfolding parallelOf rows_from rowInto fold
+unfolding parallel_of rows_from row_into fold
 returns c =
     let through2 = c.before.before in
     let Turned-up = through2.before in

@@ -1,15 +1,15 @@
 -- What the calls promise, from the last to the first. Assumes nothing.
 use borrow.Author.Rules.{rules}
 use Rattle.loops.specs.Turns.{fold}
-use Rattle.rows.specs.Kinds.{perpendicularOf}
+use Rattle.rows.specs.Kinds.{perpendicular_of}
 use Rattle.slopes.specs.Arms.{rows_from}
-use Rattle.slopes.specs.Dense.{rowInto}
+use Rattle.slopes.specs.Dense.{row_into}
 use Rattle.slopes.proofs.Held.{within}
 use Rattle.slopes.proofs.arms.perpendicular.Statement.{statement}
 use Rattle.slopes.proofs.arms.perpendicular.Tie as tie
 
 returns : tie.Need-returns
-unfolding perpendicularOf rows_from rowInto fold
+unfolding perpendicular_of rows_from row_into fold
 returns c =
     let through2 = c.before.before in
     let clear-row = through2.before.before.before.before in

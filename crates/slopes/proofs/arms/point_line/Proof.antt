@@ -1,9 +1,9 @@
 -- What the calls promise, from the last to the first. Assumes nothing.
 use mathlib.Core.Path.{◌∙◌}
 use Rattle.loops.specs.Turns.{fold}
-use Rattle.rows.specs.Kinds.{pointLineOf}
+use Rattle.rows.specs.Kinds.{point_line_of}
 use Rattle.slopes.specs.Arms.{rows_from}
-use Rattle.slopes.specs.Dense.{rowInto}
+use Rattle.slopes.specs.Dense.{row_into}
 use Rattle.slopes.proofs.Held.{within}
 use Rattle.slopes.proofs.arms.point_line.Statement.{statement}
 use Rattle.slopes.proofs.arms.point_line.Tie as tie
@@ -17,7 +17,7 @@ same_length c =
     push2.push2.auto.0 ∙ push.push.auto.0 ∙ through1.through1.auto.0 ∙ clear-row.clear-row.auto.0
 
 returns : tie.Need-returns
-unfolding pointLineOf rows_from rowInto fold
+unfolding point_line_of rows_from row_into fold
 returns c =
     let push2 = c.before.before in
     let neg = push2.before in

@@ -1,15 +1,15 @@
 -- What the calls promise, from the last to the first. Assumes nothing.
 use borrow.Author.Rules.{rules}
 use Rattle.loops.specs.Turns.{fold}
-use Rattle.rows.specs.Kinds.{radiusKindOf}
+use Rattle.rows.specs.Kinds.{radius_kind_of}
 use Rattle.slopes.specs.Arms.{rows_from}
-use Rattle.slopes.specs.Dense.{rowInto}
+use Rattle.slopes.specs.Dense.{row_into}
 use Rattle.slopes.proofs.Held.{within}
 use Rattle.slopes.proofs.arms.radius_kind.Statement.{statement}
 use Rattle.slopes.proofs.arms.radius_kind.Tie as tie
 
 returns : tie.Need-returns
-unfolding radiusKindOf rows_from rowInto fold
+unfolding radius_kind_of rows_from row_into fold
 returns c =
     let push2 = c.before.before in
     let neg = push2.before in

@@ -1,8 +1,8 @@
 -- A row after the other: what the calls promise, from the last to the first. Assumes nothing.
 use mathlib.Core.Path.{◌∙◌}
 use Rattle.loops.specs.Turns.{fold}
-use Rattle.rows.specs.Kinds.{symmetricOf}
-use Rattle.slopes.specs.Dense.{rowInto}
+use Rattle.rows.specs.Kinds.{symmetric_of}
+use Rattle.slopes.specs.Dense.{row_into}
 use Rattle.slopes.proofs.Held.{within, two-rows}
 use Rattle.slopes.proofs.arms.symmetric.Statement.{statement}
 use Rattle.slopes.proofs.arms.symmetric.Tie as tie
@@ -21,7 +21,7 @@ same_length c =
     push5.push5.auto.0 ∙ push4.push4.auto.0 ∙ through12.through12.auto.0 ∙ clear-row2.clear-row2.auto.0 ∙ push3.push3.auto.0 ∙ push2.push2.auto.0 ∙ push.push.auto.0 ∙ through1.through1.auto.0 ∙ clear-row.clear-row.auto.0
 
 returns : tie.Need-returns
-unfolding symmetricOf rowInto fold
+unfolding symmetric_of row_into fold
 returns c =
     let push5 = c.before.before in
     let neg2 = push5.before in

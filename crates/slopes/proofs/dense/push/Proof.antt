@@ -1,11 +1,11 @@
 -- The coordinate x first, then y. Assumes nothing.
 use borrow.Author.Rules.{rules}
-use Rattle.slopes.specs.Dense.{addEntry}
+use Rattle.slopes.specs.Dense.{add_entry}
 use Rattle.slopes.proofs.dense.push.Statement.{statement}
 use Rattle.slopes.proofs.dense.push.Tie as tie
 
 returns : tie.Need-returns
-unfolding addEntry
+unfolding add_entry
 returns c =
     let add-at2 = c.before.before in
     let free2 = add-at2.before in

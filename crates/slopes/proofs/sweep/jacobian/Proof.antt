@@ -12,9 +12,9 @@ use Rattle.loops.specs.Turns.{fold}
 use Rattle.loops.proofs.Turning.{fold_done}
 use Rattle.sketch.specs.declared.Active.{Active}
 use Rattle.rows.specs.Column.{laid}
-use Rattle.sketch.specs.Blank.{blankActive}
+use Rattle.sketch.specs.Blank.{blank_active}
 use Rattle.rows.specs.Located.{at_of}
-use Rattle.slopes.specs.Dense.{nextRow, rowsNext, jacobianOf}
+use Rattle.slopes.specs.Dense.{next_row, rows_next, jacobian_of}
 use Rattle.slopes.proofs.Held.{rows-turn, rows-past}
 use Rattle.rows.proofs.Found.{found_rows}
 use Rattle.slopes.proofs.sweep.jacobian.Statement.{statement}
@@ -27,13 +27,13 @@ neither false q h = (refl, h)
 abbrev invariant-loop : tie.invariant-loop
 invariant-loop chosen places columns n x j₀ equations lines row₀ i₀ i-end j row i =
     (i ≤ i-end) × (row ≤ 2 * i) × (length j ≡ length j₀) × (i-end ≤ 40) × (n ≤ 80)
-    × (fold (rowsNext equations lines places x columns n) (laid row j) (drop i chosen) ≡ fold (rowsNext equations lines places x columns n) (laid 0 j₀) chosen)
+    × (fold (rows_next equations lines places x columns n) (laid row j) (drop i chosen) ≡ fold (rows_next equations lines places x columns n) (laid 0 j₀) chosen)
 
 abbrev decreases-loop : tie.decreases-loop
 decreases-loop chosen places columns n x j₀ equations lines row₀ i₀ i-end j row i = i-end - i
 
 returns : tie.Need-returns invariant-loop decreases-loop
-unfolding jacobianOf
+unfolding jacobian_of
 returns c = pick_yes _ _ _ _ c.if1.true refl
 
 loop-holds : tie.Need-loop-init invariant-loop decreases-loop
@@ -74,16 +74,16 @@ loop-again-2 c =
       l.invariant.3,
       l.invariant.4,
       rows-turn a.t1 a.t2 a.places.now a.x.now a.chosen.now l.i (search rules) a.columns.now a.n _ _ _ _ _ _
-          (ap (λ (e : Active). e.equation) (any-default a.t1 _ _ blankActive (search rules))) (v.0 ∙ ap (fold (nextRow a.places.now a.columns.now a.n) _) rows)
+          (ap (λ (e : Active). e.equation) (any-default a.t1 _ _ blank_active (search rules))) (v.0 ∙ ap (fold (next_row a.places.now a.columns.now a.n) _) rows)
           l.invariant.5,
     )
 
 returns-2 : tie.Need-returns-2 invariant-loop decreases-loop
-unfolding jacobianOf
+unfolding jacobian_of
 returns-2 c =
     let a = c.before.before.before.before.before.before.before.before.args in
     pick_no _ _ _ _ c.before.before.if1.false
-    (fold_done (rowsNext a.t1 a.t2 a.places.now a.x.now a.columns.now a.n) a.chosen.now c.before.loop.i _ _ (search rules) c.before.loop.invariant.5)
+    (fold_done (rows_next a.t1 a.t2 a.places.now a.x.now a.columns.now a.n) a.chosen.now c.before.loop.i _ _ (search rules) c.before.loop.invariant.5)
 
 pub jacobian-spec : {M : Type 1} → statement M
 jacobian-spec =

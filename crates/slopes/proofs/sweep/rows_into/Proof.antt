@@ -1,6 +1,6 @@
 -- From the row's place on. Assumes nothing.
 use native.Mathlib.Omega.{arith}
-use Rattle.rows.specs.Ends.{rowsGiven}
+use Rattle.rows.specs.Ends.{rows_given}
 use Rattle.rows.specs.Located.{at_of}
 use Rattle.rows.proofs.Bounded.{bounded}
 use Rattle.slopes.proofs.Held.{place, rows-laid, few}
@@ -24,7 +24,7 @@ add-result c =
     let s = g.before.before.before.before.before.before in
     let a = s.args in
     let at = at_of a.places.now a.x.now in
-    let h = few a.places.now a.columns.now a.n a.row _ _ _ (rowsGiven a.ends at a.e) g.gradients.ensures (bounded a.ends at a.e) in
+    let h = few a.places.now a.columns.now a.n a.row _ _ _ (rows_given a.ends at a.e) g.gradients.ensures (bounded a.ends at a.e) in
     let k = s.requires.0 in
     omega arith
 
@@ -34,7 +34,7 @@ returns c =
     let s = g.before.before.before.before.before.before in
     let a = s.args in
     let at = at_of a.places.now a.x.now in
-    let h = few a.places.now a.columns.now a.n a.row _ _ _ (rowsGiven a.ends at a.e) g.gradients.ensures (bounded a.ends at a.e) in
+    let h = few a.places.now a.columns.now a.n a.row _ _ _ (rows_given a.ends at a.e) g.gradients.ensures (bounded a.ends at a.e) in
     (rows-laid a.places.now a.columns.now a.n a.row _ _ _ _ g.gradients.ensures, omega arith)
 
 pub rows-into-spec : {M : Type 1} → statement M

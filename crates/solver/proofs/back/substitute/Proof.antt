@@ -9,12 +9,12 @@ use lib.ListN.{length, get_or, take, drop, set, replicate, length-replicate, dro
 use lib.Seq.{get_or-take, get_or-drop, take-take, take-set-le}
 use borrow.Author.Rules.{rules}
 use Rattle.floats.specs.Ops.{◌⊖◌, ◌⊘◌, zero⁺, zero⁻}
-use Rattle.loops.specs.Turns.{downTo}
-use Rattle.loops.proofs.Both.{upTo-same}
-use Rattle.loops.proofs.Turning.{downTo-next, downTo-done}
+use Rattle.loops.specs.Turns.{down_to}
+use Rattle.loops.proofs.Both.{up_to-same}
+use Rattle.loops.proofs.Turning.{down_to-next, down_to-done}
 use Rattle.loops.proofs.Cells.{cells}
 use Rattle.loops.proofs.Parts.{get-past}
-use Rattle.solver.specs.Steps.{sys, at, addTerm, sum_of, backAt, backOf}
+use Rattle.solver.specs.Steps.{sys, at, add_term, sum_of, back_at, back_of}
 use Rattle.solver.proofs.back.substitute.Statement.{statement}
 use Rattle.solver.proofs.back.substitute.Tie as tie
 
@@ -29,9 +29,9 @@ same-past r b c h =
     rw e (get-past (replicate r zero⁺) (drop r b) r (c - r) nan (length-replicate r zero⁺) ∙ get_or-drop r b (c - r) nan)
 
 same_sum : (n k r : ℕ) (a b : List Float) → r ≡ suc k → sum_of n k a b ≡ sum_of n k a (so_far r b)
-unfolding sum_of addTerm
+unfolding sum_of add_term
 same_sum n k r a b e =
-    upTo-same (addTerm n k a b) (addTerm n k a (so_far r b)) (k + 1) n (λ i s h _. rw (same-past r b i (omega arith))) zero⁻
+    up_to-same (add_term n k a b) (add_term n k a (so_far r b)) (k + 1) n (λ i s h _. rw (same-past r b i (omega arith))) zero⁻
 
 written : (k : ℕ) (b : List Float) (v : Float) → k < length b → replicate k zero⁺ ++ drop k (set b k v) ≡ set (replicate (suc k) zero⁺ ++ drop (suc k) b) k v
 written k [] v h = absurd (not-suc-le-zero h)
@@ -44,8 +44,8 @@ module _ (n k r : ℕ) (a b₀ b : List Float) (e : r ≡ suc k) (same : take r 
       let h : k < r = omega arith in
       sym (get_or-take r b k nan h) ∙ ap (λ l. get_or l k nan) same ∙ get_or-take r b₀ k nan h
 
-  turn : (w : Float) → k < length b → w ≡ sum_of n k a b → so_far k (set b k ((at b k ⊖ w) ⊘ at a (k * n + k))) ≡ backAt n a b₀ k (so_far r b)
-  unfolding backAt so_far
+  turn : (w : Float) → k < length b → w ≡ sum_of n k a b → so_far k (set b k ((at b k ⊖ w) ⊘ at a (k * n + k))) ≡ back_at n a b₀ k (so_far r b)
+  unfolding back_at so_far
   turn w h s =
       rw (e, s, same-right, same_sum n k (suc k) a b refl) (written k b ((at b₀ k ⊖ sum_of n k a (so_far (suc k) b)) ⊘ at a (k * n + k)) h)
 
@@ -59,19 +59,19 @@ at-start : (n : ℕ) (b : List Float) → length b ≡ n → so_far n b ≡ repl
 unfolding so_far
 at-start n b e = let h : length b ≤ n = omega arith in rw (drop_of_length-le b h, append-nil)
 
-at-end : (r : ℕ) (f : ℕ → List Float → List Float) (b R : List Float) → r ≤ 0 → downTo r f (so_far r b) ≡ R → b ≡ R
+at-end : (r : ℕ) (f : ℕ → List Float → List Float) (b R : List Float) → r ≤ 0 → down_to r f (so_far r b) ≡ R → b ≡ R
 unfolding so_far
-at-end r f b R h q = let e : r ≡ 0 = omega arith in rw e at (downTo-done f r (so_far r b) R h q)
+at-end r f b R h q = let e : r ≡ 0 = omega arith in rw e at (down_to-done f r (so_far r b) R h q)
 
 abbrev invariant-loop : tie.invariant-loop
-invariant-loop a b₀ n r₀ b r = (r ≤ n) × (length b ≡ length b₀) × (take r b ≡ take r b₀) × (downTo r (backAt n a b₀) (so_far r b) ≡ backOf n (sys a b₀))
+invariant-loop a b₀ n r₀ b r = (r ≤ n) × (length b ≡ length b₀) × (take r b ≡ take r b₀) × (down_to r (back_at n a b₀) (so_far r b) ≡ back_of n (sys a b₀))
 
 abbrev decreases-loop : tie.decreases-loop
 decreases-loop a b₀ n r₀ b r = r
 
 loop-holds : tie.Need-loop-init invariant-loop decreases-loop
-unfolding backOf
-loop-holds c = (search rules, refl, refl, ap (downTo _ _) (at-start _ _ (search rules)))
+unfolding back_of
+loop-holds c = (search rules, refl, refl, ap (down_to _ _) (at-start _ _ (search rules)))
 
 weight-requires : tie.Need-weight-requires invariant-loop decreases-loop
 weight-requires c κs = (search rules, (search rules, search rules))
@@ -93,7 +93,7 @@ loop-again c = (
   search rules,
   search rules,
   still (c.before.before.before.before.before.loop.r - 1) c.before.before.before.before.before.loop.r c.before.before.before.before.before.before.before.before.args.b.now c.before.before.before.before.before.loop.b _ (omega arith) c.before.before.before.before.before.loop.invariant.2,
-  downTo-next _ _ _ _ _ (search rules) (turn _ _ _ _ _ _ (omega arith) c.before.before.before.before.before.loop.invariant.2 _ (search rules) c.before.weight.ensures) c.before.before.before.before.before.loop.invariant.3,
+  down_to-next _ _ _ _ _ (search rules) (turn _ _ _ _ _ _ (omega arith) c.before.before.before.before.before.loop.invariant.2 _ (search rules) c.before.weight.ensures) c.before.before.before.before.before.loop.invariant.3,
 )
 
 returns : tie.Need-returns invariant-loop decreases-loop

@@ -3,14 +3,14 @@ use mathlib.Core.Path.{◌≡◌, refl}
 use lib.Ieee.{neg, of_bits}
 use borrow.Author.Rules.{rules}
 use Rattle.loops.specs.Turns.{up_to}
-use Rattle.loops.proofs.Turning.{upTo-next, upTo-done}
+use Rattle.loops.proofs.Turning.{up_to-next, up_to-done}
 use Rattle.loops.proofs.Cells.{cells}
-use Rattle.solver.specs.Steps.{addTerm, sum_of}
+use Rattle.solver.specs.Steps.{add_term, sum_of}
 use Rattle.solver.proofs.back.weight.Statement.{statement}
 use Rattle.solver.proofs.back.weight.Tie as tie
 
 abbrev invariant-loop : tie.invariant-loop
-invariant-loop a y n r s₀ c₀ s c = (c ≤ n) × (up_to n c (addTerm n r a y) s ≡ sum_of n r a y)
+invariant-loop a y n r s₀ c₀ s c = (c ≤ n) × (up_to n c (add_term n r a y) s ≡ sum_of n r a y)
 
 abbrev decreases-loop : tie.decreases-loop
 decreases-loop a y n r s₀ c₀ s c = n - c
@@ -32,11 +32,11 @@ shared-slice-read-s : tie.Need-shared-slice-read-s invariant-loop decreases-loop
 shared-slice-read-s c = search (cells, rules)
 
 loop-again : tie.Need-loop-preserved invariant-loop decreases-loop
-unfolding addTerm
-loop-again c = (search rules, search (upTo-next, rules))
+unfolding add_term
+loop-again c = (search rules, search (up_to-next, rules))
 
 returns : tie.Need-returns invariant-loop decreases-loop
-returns c = search (upTo-done, rules)
+returns c = search (up_to-done, rules)
 
 pub weight-spec : {M : Type 1} → statement M
 weight-spec =

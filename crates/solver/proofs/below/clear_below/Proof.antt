@@ -4,14 +4,14 @@ use mathlib.Core.Path.{◌≡◌, refl}
 use lib.ListN.{length}
 use borrow.Author.Rules.{rules}
 use Rattle.loops.specs.Turns.{up_to}
-use Rattle.loops.proofs.Turning.{upTo-next, upTo-done}
+use Rattle.loops.proofs.Turning.{up_to-next, up_to-done}
 use Rattle.loops.proofs.Cells.{cells}
-use Rattle.solver.specs.Steps.{sys, row_of, belowOf}
+use Rattle.solver.specs.Steps.{sys, row_of, below_of}
 use Rattle.solver.proofs.below.clear_below.Statement.{statement}
 use Rattle.solver.proofs.below.clear_below.Tie as tie
 
 abbrev invariant-loop : tie.invariant-loop
-invariant-loop a₀ b₀ n col p r₀ a b r = ((col < r) × (r ≤ n)) × ((length a ≡ length a₀) × (length b ≡ length b₀)) × (up_to n r (row_of n col p) (sys a b) ≡ belowOf n col (sys a₀ b₀))
+invariant-loop a₀ b₀ n col p r₀ a b r = ((col < r) × (r ≤ n)) × ((length a ≡ length a₀) × (length b ≡ length b₀)) × (up_to n r (row_of n col p) (sys a b) ≡ below_of n col (sys a₀ b₀))
 
 abbrev decreases-loop : tie.decreases-loop
 decreases-loop a₀ b₀ n col p r₀ a b r = n - r
@@ -29,14 +29,14 @@ slice-read-p : tie.Need-slice-read-p invariant-loop decreases-loop
 slice-read-p c = search (cells, rules)
 
 loop-holds : tie.Need-loop-init invariant-loop decreases-loop
-unfolding belowOf
+unfolding below_of
 loop-holds c = ((search rules, search rules), (refl, refl), refl)
 
 loop-again : tie.Need-loop-preserved invariant-loop decreases-loop
-loop-again c = ((search rules, search rules), (search rules, search rules), upTo-next _ _ _ _ _ _ (search rules) c.before.before.before.before.clear-row.ensures c.before.before.before.before.before.before.before.before.loop.invariant.2)
+loop-again c = ((search rules, search rules), (search rules, search rules), up_to-next _ _ _ _ _ _ (search rules) c.before.before.before.before.clear-row.ensures c.before.before.before.before.before.before.before.before.loop.invariant.2)
 
 returns : tie.Need-returns invariant-loop decreases-loop
-returns c = search (upTo-done, rules)
+returns c = search (up_to-done, rules)
 
 pub clear-below-spec : {M : Type 1} → statement M
 clear-below-spec =

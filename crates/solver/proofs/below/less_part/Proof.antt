@@ -8,10 +8,10 @@ use lib.Ieee.{Float, nan}
 use lib.ListN.{length, take, drop, take-append-drop, length-drop}
 use lib.Seq.{length-take-le}
 use Rattle.loops.specs.Turns.{up_to}
-use Rattle.loops.proofs.Turning.{upTo-part}
+use Rattle.loops.proofs.Turning.{up_to-part}
 use Rattle.loops.proofs.Cells.{cells, cell_in, cell-mul}
 use Rattle.loops.proofs.Parts.{tail-part, past-tail, get-past, set_past}
-use Rattle.solver.specs.Steps.{lessAt, lessPast}
+use Rattle.solver.specs.Steps.{less_at, less_past}
 use borrow.Author.Rules.{rules}
 use Rattle.solver.proofs.below.less_part.Statement.{statement}
 use Rattle.solver.proofs.below.less_part.Tie as tie
@@ -29,8 +29,8 @@ past-start n col r i h =
     omega (arith, ap (λ x. x * n) e)
 
 module _ (n col r : ℕ) (f : Float) (h : col ≤ r) (p : List Float) (start : length p ≡ col * n + col) where
-  turn : (i : ℕ) (t : List Float) → lessAt n col r f (col + i) (p ++ t) ≡ p ++ lessPast ((r - col) * n) f i t
-  unfolding lessAt lessPast
+  turn : (i : ℕ) (t : List Float) → less_at n col r f (col + i) (p ++ t) ≡ p ++ less_past ((r - col) * n) f i t
+  unfolding less_at less_past
   turn i t =
       let row : r * n + (col + i) ≡ (col * n + col) + ((r - col) * n + i) = past-start n col r i h in
       let pivot : col * n + (col + i) ≡ (col * n + col) + i = omega arith in
@@ -41,15 +41,15 @@ start-in : (n col r : ℕ) (a : List Float) → col < r → r < n → n * n ≤ 
 start-in n col r a h q t = le_of_lt (cell_in n n col col a (omega arith) (omega arith) t)
 
 module _ (n col r : ℕ) (f : Float) (a y : List Float) (h : col < r) (q : r < n) (t : n * n ≤ length a) where
-  bridge : take (col * n + col) a ++ up_to (n - col) 0 (lessPast ((r - col) * n) f) (drop (col * n + col) a) ≡ up_to n col (lessAt n col r f) a
+  bridge : take (col * n + col) a ++ up_to (n - col) 0 (less_past ((r - col) * n) f) (drop (col * n + col) a) ≡ up_to n col (less_at n col r f) a
   bridge =
       let p = take (col * n + col) a in
       let hi : col + (n - col) ≡ n = omega arith in
       rw (hi, add-zero, take-append-drop) at
-      (sym (upTo-part (λ t. p ++ t) col (lessAt n col r f) (lessPast ((r - col) * n) f) (turn n col r f (le_of_lt h) p (length-take-le (col * n + col) a (start-in n col r a h q t))) (n - col) 0 (drop (col * n + col) a)))
+      (sym (up_to-part (λ t. p ++ t) col (less_at n col r f) (less_past ((r - col) * n) f) (turn n col r f (le_of_lt h) p (length-take-le (col * n + col) a (start-in n col r a h q t))) (n - col) 0 (drop (col * n + col) a)))
 
-  put_back : y ≡ up_to (n - col) 0 (lessPast ((r - col) * n) f) (take (length a - (col * n + col)) (drop (col * n + col) a))
-      → take (col * n + col) a ++ (y ++ drop (length a - (col * n + col)) (drop (col * n + col) a)) ≡ up_to n col (lessAt n col r f) a
+  put_back : y ≡ up_to (n - col) 0 (less_past ((r - col) * n) f) (take (length a - (col * n + col)) (drop (col * n + col) a))
+      → take (col * n + col) a ++ (y ++ drop (length a - (col * n + col)) (drop (col * n + col) a)) ≡ up_to n col (less_at n col r f) a
   put_back e = past-tail a y (col * n + col) ∙ rw (e, tail-part a (col * n + col)) bridge
 
 mul-start : tie.Need-overflow-mul-start

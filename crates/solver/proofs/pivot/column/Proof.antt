@@ -5,24 +5,24 @@ use mathlib.Core.List.{List}
 use mathlib.Core.Path.{◌≡◌, refl, ap, ◌∙◌}
 use lib.Ieee.{Float, le}
 use Rattle.floats.specs.Ops.{◌⊗◌, 1e-15}
-use Rattle.floats.specs.Magnitude.{absOf}
+use Rattle.floats.specs.Magnitude.{abs_of}
 use Rattle.loops.specs.Turns.{go, stop}
 use Rattle.loops.proofs.Cells.{cells}
 use Rattle.loops.proofs.Picks.{pick_yes, pick_no}
-use Rattle.solver.specs.Lesser.{lesserSwapped, lesserColumn}
-use Rattle.solver.specs.Steps.{sys, at, pivotOf, belowOf, singular}
+use Rattle.solver.specs.Lesser.{lesser_swapped, lesser_column}
+use Rattle.solver.specs.Steps.{sys, at, pivot_of, below_of, singular}
 use borrow.Author.Rules.{rules}
 use Rattle.solver.proofs.pivot.column.Statement.{statement}
 use Rattle.solver.proofs.pivot.column.Tie as tie
 
-module _ (n col piv : ℕ) (scale x : Float) (a b : List Float) (found : piv ≡ pivotOf n col a) (size : x ≡ absOf (at a (piv * n + col))) where
-  none : le x (scale ⊗ 1e-15) ≡ true → stop ≡ lesserColumn n scale col (sys a b)
-  unfolding lesserColumn singular
+module _ (n col piv : ℕ) (scale x : Float) (a b : List Float) (found : piv ≡ pivot_of n col a) (size : x ≡ abs_of (at a (piv * n + col))) where
+  none : le x (scale ⊗ 1e-15) ≡ true → stop ≡ lesser_column n scale col (sys a b)
+  unfolding lesser_column singular
   none t = pick_yes _ _ _ _ (rw (size, found) at t) refl
 
-  some : (a₁ b₁ a₂ b₂ : List Float) → le x (scale ⊗ 1e-15) ≡ false → sys a₁ b₁ ≡ lesserSwapped n col piv (sys a b) → sys a₂ b₂ ≡ belowOf n col (sys a₁ b₁)
-      → go (sys a₂ b₂) ≡ lesserColumn n scale col (sys a b)
-  unfolding lesserColumn singular
+  some : (a₁ b₁ a₂ b₂ : List Float) → le x (scale ⊗ 1e-15) ≡ false → sys a₁ b₁ ≡ lesser_swapped n col piv (sys a b) → sys a₂ b₂ ≡ below_of n col (sys a₁ b₁)
+      → go (sys a₂ b₂) ≡ lesser_column n scale col (sys a b)
+  unfolding lesser_column singular
   some a₁ b₁ a₂ b₂ t s l = pick_no _ _ _ _ (rw (size, found) at t) (ap go (l ∙ rw (s, found)))
 
 mul-abs : tie.Need-overflow-mul-abs

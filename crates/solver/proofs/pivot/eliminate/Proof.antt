@@ -4,21 +4,21 @@ use native.Mathlib.Nat.{sub-zero}
 use lib.ListN.{length}
 use borrow.Author.Rules.{rules}
 use borrow.Author.Tests.{not-true, not-false}
-use Rattle.solver.specs.Lesser.{lesserColumn, lesserEliminated}
-use Rattle.solver.specs.Reasons.{columnsFrom}
+use Rattle.solver.specs.Lesser.{lesser_column, lesser_eliminated}
+use Rattle.solver.specs.Reasons.{columns_from}
 use Rattle.solver.proofs.Reasons.{columns-next, columns-stop, columns-done}
 use Rattle.solver.specs.Steps.{sys}
 use Rattle.solver.proofs.pivot.eliminate.Statement.{statement}
 use Rattle.solver.proofs.pivot.eliminate.Tie as tie
 
 abbrev invariant-loop : tie.invariant-loop
-invariant-loop a₀ b₀ n s col₀ a b col = (col ≤ n) × ((length a ≡ length a₀) × (length b ≡ length b₀)) × (columnsFrom (lesserColumn n s) (n - col) col (sys a b) ≡ lesserEliminated n (sys a₀ b₀))
+invariant-loop a₀ b₀ n s col₀ a b col = (col ≤ n) × ((length a ≡ length a₀) × (length b ≡ length b₀)) × (columns_from (lesser_column n s) (n - col) col (sys a b) ≡ lesser_eliminated n (sys a₀ b₀))
 
 abbrev decreases-loop : tie.decreases-loop
 decreases-loop a₀ b₀ n s col₀ a b col = n - col
 
 loop-holds : tie.Need-loop-init invariant-loop decreases-loop
-unfolding lesserEliminated
+unfolding lesser_eliminated
 loop-holds c = (search rules, (refl, refl), rw (sub-zero, c.scale.ensures))
 
 returns : tie.Need-returns invariant-loop decreases-loop

@@ -2,17 +2,17 @@
 use mathlib.Core.Bool.{true, false, true≢false}
 use mathlib.Core.Path.{◌≡◌, refl, sym, ◌∙◌}
 use lib.Ieee.{Float, nan, inf, fin, lt, is_nan}
-use Rattle.floats.specs.Magnitude.{absOf, max_of}
+use Rattle.floats.specs.Magnitude.{abs_of, max_of}
 use borrow.Author.Rules.{rules}
 use Rattle.solver.proofs.pivot.larger.Statement.{statement}
 use Rattle.solver.proofs.pivot.larger.Tie as tie
 
-module _ (m v a : Float) (size : a ≡ absOf v) where
-  more : lt m a ≡ true → a ≡ max_of m (absOf v)
+module _ (m v a : Float) (size : a ≡ abs_of v) where
+  more : lt m a ≡ true → a ≡ max_of m (abs_of v)
   unfolding max_of
   more t = rw (← size, t)
 
-  no_more : is_nan m ≡ false → lt m a ≡ false → m ≡ max_of m (absOf v)
+  no_more : is_nan m ≡ false → lt m a ≡ false → m ≡ max_of m (abs_of v)
   unfolding max_of
   no_more k t = rw (← size, t, k)
 

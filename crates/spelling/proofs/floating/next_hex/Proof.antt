@@ -6,8 +6,8 @@ use Prim.Native.Nat.{ℕ, ◌+◌, ◌*◌, ◌<◌, ◌^◌}
 use native.Mathlib.Omega.{arith}
 use borrow.Author.Tests.{ltb-true}
 use lib.Dec.{ltb}
-use Rattle.spelling.specs.Floating.{hexOf, nextHex}
-use Rattle.spelling.specs.Places.{byte_at, furtherOf, spoiltOf}
+use Rattle.spelling.specs.Floating.{hex_of, next_hex}
+use Rattle.spelling.specs.Places.{byte_at, further_of, spoilt_of}
 use Rattle.spelling.specs.declared.BitsRead.{BitsRead}
 use Rattle.spelling.specs.declared.Cursor.{Cursor}
 use Rattle.loops.proofs.Picks.{both}
@@ -21,14 +21,14 @@ room d b t =
     let k : b < 0x1000_0000_0000_0000 = ltb-true b 0x1000_0000_0000_0000 (both (ltb d 16) (ltb b 0x1000_0000_0000_0000) t).1 in
     (omega arith, omega arith)
 
-module _ (s : List ℕ) (f : BitsRead) (b d : ℕ) (n : Cursor) (eb : b ≡ byte_at s f.next) (ed : d ≡ hexOf b) where
-  law-yes : ltb d 16 && ltb f.bits 0x1000_0000_0000_0000 ≡ true → n ≡ furtherOf s f.next
-      → record { bits = 16 * f.bits + d; next = n } ≡ nextHex s f
-  unfolding nextHex
+module _ (s : List ℕ) (f : BitsRead) (b d : ℕ) (n : Cursor) (eb : b ≡ byte_at s f.next) (ed : d ≡ hex_of b) where
+  law-yes : ltb d 16 && ltb f.bits 0x1000_0000_0000_0000 ≡ true → n ≡ further_of s f.next
+      → record { bits = 16 * f.bits + d; next = n } ≡ next_hex s f
+  unfolding next_hex
   law-yes t e = rw (sym eb, sym ed, t, e)
 
-  law-no : ltb d 16 && ltb f.bits 0x1000_0000_0000_0000 ≡ false → n ≡ spoiltOf f.next → record { bits = 0; next = n } ≡ nextHex s f
-  unfolding nextHex
+  law-no : ltb d 16 && ltb f.bits 0x1000_0000_0000_0000 ≡ false → n ≡ spoilt_of f.next → record { bits = 0; next = n } ≡ next_hex s f
+  unfolding next_hex
   law-no t e = rw (sym eb, sym ed, t, e)
 
 mul-t11 : tie.Need-overflow-mul-t11

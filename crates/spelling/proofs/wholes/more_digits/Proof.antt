@@ -6,8 +6,8 @@ use Prim.Native.Nat.{ℕ, ◌+◌, ◌*◌, ◌<◌, ◌≤◌, ◌^◌}
 use native.Mathlib.Omega.{arith}
 use borrow.Author.Tests.{ltb-true, leb-true}
 use lib.Dec.{ltb, leb}
-use Rattle.spelling.specs.Places.{byte_at, furtherOf}
-use Rattle.spelling.specs.Wholes.{digitOf, moreOf}
+use Rattle.spelling.specs.Places.{byte_at, further_of}
+use Rattle.spelling.specs.Wholes.{digit_of, more_of}
 use Rattle.spelling.specs.declared.Cursor.{Cursor}
 use Rattle.spelling.specs.declared.WholeRead.{WholeRead}
 use Rattle.loops.proofs.Picks.{both}
@@ -22,13 +22,13 @@ room d v p t =
     (omega arith, omega arith)
 
 module _ (s : List ℕ) (n : WholeRead) (b d : ℕ) where
-  law-yes : (k : Cursor) → b ≡ byte_at s n.next → d ≡ digitOf b → ltb d 10 && leb 1 n.value && leb n.value 9999 ≡ true
-      → k ≡ furtherOf s n.next → record { value = 10 * n.value + d; next = k } ≡ moreOf s n
-  unfolding moreOf
+  law-yes : (k : Cursor) → b ≡ byte_at s n.next → d ≡ digit_of b → ltb d 10 && leb 1 n.value && leb n.value 9999 ≡ true
+      → k ≡ further_of s n.next → record { value = 10 * n.value + d; next = k } ≡ more_of s n
+  unfolding more_of
   law-yes k eb ed t e = rw (sym eb, sym ed, t, e)
 
-  law-no : b ≡ byte_at s n.next → d ≡ digitOf b → ltb d 10 && leb 1 n.value && leb n.value 9999 ≡ false → n ≡ moreOf s n
-  unfolding moreOf
+  law-no : b ≡ byte_at s n.next → d ≡ digit_of b → ltb d 10 && leb 1 n.value && leb n.value 9999 ≡ false → n ≡ more_of s n
+  unfolding more_of
   law-no eb ed t = rw (sym eb, sym ed, t)
 
 mul-t13 : tie.Need-overflow-mul-t13

@@ -8,7 +8,7 @@ use borrow.Author.Tests.{lt-ltb, le-ltb}
 use lib.ListN.{length}
 use Rattle.sketch.specs.declared.Build.{Build}
 use Rattle.sketch.specs.declared.Ending.{Ending}
-use Rattle.text.specs.Reader.{countsAt, overCounts, buildAt, refusedWith, judged, tooLong, badCounts, badRest, read_of}
+use Rattle.text.specs.Reader.{counts_at, over_counts, build_at, refused_with, judged, too_long, bad_counts, bad_rest, read_of}
 use Rattle.text.specs.declared.BuildRead.{BuildRead}
 use Rattle.text.specs.declared.CountsRead.{CountsRead}
 use Rattle.text.specs.declared.Outcome.{Outcome}
@@ -19,38 +19,38 @@ use Rattle.text.proofs.reader.read.Tie as tie
 same : (t c o r t' c' o' r' : Bool) (b : Build) → t ≡ t' → c ≡ c' → o ≡ o' → r ≡ r' → judged t c o r b ≡ judged t' c' o' r' b
 same t c o r t' c' o' r' b p q u v = rw (p, q, u, v)
 
-too_long : (s : List ℕ) (x : Reading) → x ≡ refusedWith Ending.TooLong → 16384 < length s → x ≡ read_of s
+too-long : (s : List ℕ) (x : Reading) → x ≡ refused_with Ending.TooLong → 16384 < length s → x ≡ read_of s
 unfolding read_of
-too_long s x e h = e ∙ sym (same (tooLong s) (badCounts (countsAt s)) (overCounts (countsAt s)) (badRest s (buildAt s (countsAt s))) true (badCounts (countsAt s)) (overCounts (countsAt s)) (badRest s (buildAt s (countsAt s))) (buildAt s (countsAt s)).build (lt-ltb _ _ h) refl refl refl)
+too-long s x e h = e ∙ sym (same (too_long s) (bad_counts (counts_at s)) (over_counts (counts_at s)) (bad_rest s (build_at s (counts_at s))) true (bad_counts (counts_at s)) (over_counts (counts_at s)) (bad_rest s (build_at s (counts_at s))) (build_at s (counts_at s)).build (lt-ltb _ _ h) refl refl refl)
 
-module _ (s : List ℕ) (n : CountsRead) (en : n ≡ countsAt s) (h : length s ≤ 16384) where
-  bad-counts : (x : Reading) → x ≡ refusedWith Ending.BadForm → badCounts n ≡ true → x ≡ read_of s
+module _ (s : List ℕ) (n : CountsRead) (en : n ≡ counts_at s) (h : length s ≤ 16384) where
+  bad-counts : (x : Reading) → x ≡ refused_with Ending.BadForm → bad_counts n ≡ true → x ≡ read_of s
   unfolding read_of
-  bad-counts x e f = e ∙ sym (same (tooLong s) (badCounts (countsAt s)) (overCounts (countsAt s)) (badRest s (buildAt s (countsAt s))) false true (overCounts (countsAt s)) (badRest s (buildAt s (countsAt s))) (buildAt s (countsAt s)).build (le-ltb _ _ h) (sym (ap (λ (m : CountsRead). badCounts m) en) ∙ f) refl refl)
+  bad-counts x e f = e ∙ sym (same (too_long s) (bad_counts (counts_at s)) (over_counts (counts_at s)) (bad_rest s (build_at s (counts_at s))) false true (over_counts (counts_at s)) (bad_rest s (build_at s (counts_at s))) (build_at s (counts_at s)).build (le-ltb _ _ h) (sym (ap (λ (m : CountsRead). bad_counts m) en) ∙ f) refl refl)
 
-  too_many : (x : Reading) → x ≡ refusedWith Ending.TooMany → badCounts n ≡ false → overCounts n ≡ true → x ≡ read_of s
+  too-many : (x : Reading) → x ≡ refused_with Ending.TooMany → bad_counts n ≡ false → over_counts n ≡ true → x ≡ read_of s
   unfolding read_of
-  too_many x e f o = e ∙ sym (same (tooLong s) (badCounts (countsAt s)) (overCounts (countsAt s)) (badRest s (buildAt s (countsAt s))) false false true (badRest s (buildAt s (countsAt s))) (buildAt s (countsAt s)).build (le-ltb _ _ h) (sym (ap (λ (m : CountsRead). badCounts m) en) ∙ f) (sym (ap (λ (m : CountsRead). overCounts m) en) ∙ o) refl)
+  too-many x e f o = e ∙ sym (same (too_long s) (bad_counts (counts_at s)) (over_counts (counts_at s)) (bad_rest s (build_at s (counts_at s))) false false true (bad_rest s (build_at s (counts_at s))) (build_at s (counts_at s)).build (le-ltb _ _ h) (sym (ap (λ (m : CountsRead). bad_counts m) en) ∙ f) (sym (ap (λ (m : CountsRead). over_counts m) en) ∙ o) refl)
 
-  module _ (b : BuildRead) (eb : b ≡ buildAt s n) (f : badCounts n ≡ false) (o : overCounts n ≡ false) where
-    bad-rest : (x : Reading) → x ≡ refusedWith Ending.BadForm → badRest s b ≡ true → x ≡ read_of s
+  module _ (b : BuildRead) (eb : b ≡ build_at s n) (f : bad_counts n ≡ false) (o : over_counts n ≡ false) where
+    bad-rest : (x : Reading) → x ≡ refused_with Ending.BadForm → bad_rest s b ≡ true → x ≡ read_of s
     unfolding read_of
-    bad-rest x e g = e ∙ sym (same (tooLong s) (badCounts (countsAt s)) (overCounts (countsAt s)) (badRest s (buildAt s (countsAt s))) false false false true (buildAt s (countsAt s)).build (le-ltb _ _ h) (sym (ap (λ (m : CountsRead). badCounts m) en) ∙ f) (sym (ap (λ (m : CountsRead). overCounts m) en) ∙ o) (sym (ap (λ (m : BuildRead). badRest s m) (eb ∙ ap (λ (m : CountsRead). buildAt s m) en)) ∙ g))
+    bad-rest x e g = e ∙ sym (same (too_long s) (bad_counts (counts_at s)) (over_counts (counts_at s)) (bad_rest s (build_at s (counts_at s))) false false false true (build_at s (counts_at s)).build (le-ltb _ _ h) (sym (ap (λ (m : CountsRead). bad_counts m) en) ∙ f) (sym (ap (λ (m : CountsRead). over_counts m) en) ∙ o) (sym (ap (λ (m : BuildRead). bad_rest s m) (eb ∙ ap (λ (m : CountsRead). build_at s m) en)) ∙ g))
 
-    well : badRest s b ≡ false → record { outcome = Outcome.Read; build = b.build } ≡ read_of s
+    well : bad_rest s b ≡ false → record { outcome = Outcome.Read; build = b.build } ≡ read_of s
     unfolding read_of
     well g =
-        ap (λ (m : BuildRead). record { outcome = Outcome.Read; build = m.build }) (eb ∙ ap (λ (m : CountsRead). buildAt s m) en)
-        ∙ sym (same (tooLong s) (badCounts (countsAt s)) (overCounts (countsAt s)) (badRest s (buildAt s (countsAt s))) false false false false (buildAt s (countsAt s)).build (le-ltb _ _ h) (sym (ap (λ (m : CountsRead). badCounts m) en) ∙ f) (sym (ap (λ (m : CountsRead). overCounts m) en) ∙ o) (sym (ap (λ (m : BuildRead). badRest s m) (eb ∙ ap (λ (m : CountsRead). buildAt s m) en)) ∙ g))
+        ap (λ (m : BuildRead). record { outcome = Outcome.Read; build = m.build }) (eb ∙ ap (λ (m : CountsRead). build_at s m) en)
+        ∙ sym (same (too_long s) (bad_counts (counts_at s)) (over_counts (counts_at s)) (bad_rest s (build_at s (counts_at s))) false false false false (build_at s (counts_at s)).build (le-ltb _ _ h) (sym (ap (λ (m : CountsRead). bad_counts m) en) ∙ f) (sym (ap (λ (m : CountsRead). over_counts m) en) ∙ o) (sym (ap (λ (m : BuildRead). bad_rest s m) (eb ∙ ap (λ (m : CountsRead). build_at s m) en)) ∙ g))
 
 returns : tie.Need-returns
-returns c = too_long _ _ c.refused.ensures c.before.if1.true
+returns c = too-long _ _ c.refused.ensures c.before.if1.true
 
 returns-2 : tie.Need-returns-2
 returns-2 c = bad-counts _ _ c.before.before.before.counts.ensures c.before.before.before.before.if1.false _ c.refused2.ensures c.before.if2.true
 
 returns-3 : tie.Need-returns-3
-returns-3 c = too_many _ _ c.before.before.before.before.before.counts.ensures c.before.before.before.before.before.before.if1.false _ c.refused3.ensures c.before.before.before.if2.false (sym c.before.before.too_many.ensures ∙ c.before.if3.true)
+returns-3 c = too-many _ _ c.before.before.before.before.before.counts.ensures c.before.before.before.before.before.before.if1.false _ c.refused3.ensures c.before.before.before.if2.false (sym c.before.before.too_many.ensures ∙ c.before.if3.true)
 
 rest-requires : tie.Need-rest-requires
 rest-requires c κs = sym c.before.too_many.ensures ∙ c.if3.false

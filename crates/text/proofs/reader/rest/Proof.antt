@@ -6,12 +6,12 @@ use borrow.Author.Rules.{rules}
 use borrow.Author.Tests.{ltb-false}
 use lib.Dec.{ltb}
 use Rattle.loops.proofs.Picks.{none_of_four}
-use Rattle.text.specs.Reader.{overCounts, buildAt}
+use Rattle.text.specs.Reader.{over_counts, build_at}
 use Rattle.text.specs.declared.CountsRead.{CountsRead}
 use Rattle.text.proofs.reader.rest.Statement.{statement}
 use Rattle.text.proofs.reader.rest.Tie as tie
 
-within : (n : CountsRead) → overCounts n ≡ false → (n.points ≤ 40) × (n.lines ≤ 40) × (n.equations ≤ 40) × (n.measures ≤ 20)
+within : (n : CountsRead) → over_counts n ≡ false → (n.points ≤ 40) × (n.lines ≤ 40) × (n.equations ≤ 40) × (n.measures ≤ 20)
 within n h =
     let e = none_of_four (ltb 40 n.points) (ltb 40 n.lines) (ltb 40 n.equations) (ltb 20 n.measures) h in
     (ltb-false 40 _ e.0, ltb-false 40 _ e.1, ltb-false 40 _ e.2, ltb-false 20 _ e.3)
@@ -29,7 +29,7 @@ measures-requires : tie.Need-measures-requires
 measures-requires c κs = let s = c.before.before.before.before.before.before.before.before.before.before.before in (within s.args.n s.requires).3
 
 returns : tie.Need-returns
-unfolding buildAt
+unfolding build_at
 returns c =
     rw (
       c.before.before.before.before.before.before.measures.ensures,
