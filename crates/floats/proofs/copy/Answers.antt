@@ -13,8 +13,7 @@ use lib.ListN.{length, take, drop, drop_of_length-le}
 use lib.Seq.{take_all}
 use Rattle.loops.proofs.Writes.{into_next}
 use Rattle.floats.specs.Lists.{copied_of}
-use Rattle.floats.proofs.copy.Statement.{statement}
-use Rattle.floats.proofs.copy.Tie as tie
+use Rattle.floats.proofs.copy.Goals as goal
 
 -- an index below the shorter length is below both
 left : (n a b i : ℕ) → n ≡ min a b → i < n → i < a
@@ -42,42 +41,26 @@ ended l t i e = split (ltb (length l) (length t)) refl
     split true h = first (ltb-true _ _ h)
     split false h = second (ltb-false _ _ h)
 
-abbrev invariant-loop : tie.invariant-loop
-invariant-loop from to₀ n i₀ to i =
-    (n ≡ min (length from) (length to₀))
-    × (i ≤ n)
-    × (length to ≡ length to₀)
-    × (to ≡ map (λ (x : Float). x) (take i from) ++ drop i to₀)
+pub loop-i-init : goal.loop-i-init
+loop-i-init c = (c.smaller-n.ensures, search rules, refl, refl)
 
-abbrev decreases-loop : tie.decreases-loop
-decreases-loop from to₀ n i₀ to i = n - i
+pub offset_bounds-from-i : goal.offset_bounds-from-i
+offset_bounds-from-i c = search (reach, rules)
 
-loop-holds : tie.Need-loop-init invariant-loop decreases-loop
-loop-holds c = (c.smaller.ensures, search rules, refl, refl)
+pub bounds-from-i : goal.bounds-from-i
+bounds-from-i c = search (reach, rules)
 
-loop-again : tie.Need-loop-preserved invariant-loop decreases-loop
-loop-again c = (search rules, search rules, search rules, search (into_next (λ (x : Float). x) nan, reach, rules))
+pub offset_bounds-to-i : goal.offset_bounds-to-i
+offset_bounds-to-i c = search (reach, rules)
 
-returns : tie.Need-returns invariant-loop decreases-loop
+pub bounds-to-i : goal.bounds-to-i
+bounds-to-i c = search (reach, rules)
+
+pub loop-i-preserved : goal.loop-i-preserved
+loop-i-preserved c = (search rules, search rules, search rules, search (into_next (λ (x : Float). x) nan, reach, rules))
+
+pub returns : goal.returns
 returns c =
-    let l = c.before.loop in
-    let a = c.before.before.before.before.before.args in
+    let l = c.loop-i in
+    let a = c.args in
     l.invariant.3 ∙ ended a.from.now a.to.now l.i (search (le_antisymm, rules))
-
-pub copy_spec : {M : Type 1} → statement M
-copy_spec =
-    tie.close
-    (tie.spec
-    invariant-loop
-    decreases-loop
-    (λ c κs. search rules)
-    loop-holds
-    (λ c. search (reach, rules))
-    (λ c. search (reach, rules))
-    (λ c. search (reach, rules))
-    (λ c. search (reach, rules))
-    (λ c. search rules)
-    (λ c. search rules)
-    loop-again
-    (λ c. search rules)
-    returns)

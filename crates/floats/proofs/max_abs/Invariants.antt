@@ -1,0 +1,12 @@
+use Prim.Native.Nat.{◌≤◌, ◌-◌}
+use mathlib.Core.Path.{◌≡◌, refl}
+use lib.ListN.{length, drop}
+use lib.Ieee.{nan}
+use borrow.Author.Rules.{rules}
+use Rattle.loops.specs.Turns.{fold}
+use Rattle.loops.proofs.Turning.{fold_next, fold_done}
+use Rattle.floats.specs.Largest.{larger_abs, max_abs_of}
+use Rattle.floats.proofs.max_abs.Given as goal
+
+abbrev pub invariant-loop-i : goal.invariant-loop-i
+invariant-loop-i l = (l.i-end ≡ length l.v) × (l.i ≤ l.i-end) × (fold larger_abs l.m (drop l.i l.v) ≡ max_abs_of l.v)
