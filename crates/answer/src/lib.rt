@@ -10,7 +10,7 @@ ghost use Rattle.sketch.specs.Check.{number_of};
 use sketch::Ending;
 
 // A group that was fitted, or the one that failed: its lowest point, its freedom, its iterations and tries.
-#[derive(Drop)]
+#[derive(Clone, Copy)]
 pub struct GroupFit {
     pub lowest: usize,
     pub freedom: usize,
@@ -22,7 +22,7 @@ pub struct GroupFit {
     pub column: usize,
 }
 
-#[derive(Drop)]
+#[derive(Clone, Copy)]
 pub struct Answer {
     pub ending: Ending,
     // How many of `groups` count: all of them after a fit, the failing one where a group does not converge.

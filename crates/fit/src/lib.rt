@@ -16,7 +16,7 @@ pub use ranks::freedom;
 use rounds::Solved;
 
 // A group set out for its fit: its points and equations, its free coordinates, and the tables of places and columns.
-#[derive(Drop)]
+#[derive(Clone, Copy)]
 pub struct Frame {
     pub points: Points,
     pub equations: Equations,
@@ -26,14 +26,14 @@ pub struct Frame {
 }
 
 // How a fit ended, and its coordinates at the head of x: zeros unless it converged.
-#[derive(Drop)]
+#[derive(Clone, Copy)]
 pub struct Fitted {
     pub solved: Solved,
     pub x: [f64; 80],
 }
 
 // What the freedom of a group comes to. A refusal changes nothing that is lent.
-#[derive(Drop)]
+#[derive(Clone, Copy)]
 pub enum Degrees {
     Of(usize),
     // 9: a work area shorter than 6,400.
@@ -43,7 +43,7 @@ pub enum Degrees {
 }
 
 // Whether each equation is a suspect; `short` is 9, a work area shorter than 6,400.
-#[derive(Drop)]
+#[derive(Clone, Copy)]
 pub struct Marked {
     pub short: bool,
     pub marks: [bool; 40],

@@ -5,7 +5,7 @@ ghost use Rattle.fitter.specs.Taken.{Taken, outcome_of};
 use libc::STDIN_FILENO;
 
 // How reading ended: with so many bytes of the text, or with a read that failed.
-#[derive(Drop)]
+#[derive(Clone, Copy)]
 pub(crate) enum Input {
     Ended(usize),
     Failed,

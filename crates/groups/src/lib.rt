@@ -15,7 +15,7 @@ pub const NO_GROUP: usize = 40;
 
 // The group of each point and of each equation, `NO_GROUP` where it is in none. Groups are numbered from 0 in the order of
 // their lowest points, so group g's points and equations are the places that hold g, walked rising.
-#[derive(Drop)]
+#[derive(Clone, Copy)]
 pub struct Grouping {
     pub of_point: [usize; 40],
     pub of_equation: [usize; 40],
@@ -23,7 +23,7 @@ pub struct Grouping {
 }
 
 // Groups while their points are being listed: beside them, for each root, its group's number.
-#[derive(Drop)]
+#[derive(Clone, Copy)]
 pub(crate) struct Listing {
     pub(crate) index: [usize; 40],
     pub(crate) of_point: [usize; 40],

@@ -16,7 +16,7 @@ pub use ends::solve;
 
 // The groups fitted so far: the points, x, y, x, y, .., of which those of later groups stand where they were drawn, the sum of the
 // freedoms, and a line for each group.
-#[derive(Drop)]
+#[derive(Clone, Copy)]
 pub(crate) struct Doing {
     pub(crate) points: [f64; 80],
     pub(crate) freedom: usize,
@@ -24,7 +24,7 @@ pub(crate) struct Doing {
 }
 
 // What fitting a group, or the groups, came to: `doing`, or where it failed the group and what is answered of it.
-#[derive(Drop)]
+#[derive(Clone, Copy)]
 pub(crate) struct Went {
     pub(crate) failed: bool,
     pub(crate) group: usize,

@@ -14,21 +14,21 @@ pub use scale::{scaled, start, unscale};
 pub use tables::{columns, places};
 
 // Numbers that rise, and 0 past the count.
-#[derive(Drop)]
+#[derive(Clone, Copy)]
 pub struct Listed {
     pub items: [usize; 40],
     pub count: usize,
 }
 
 // The numbers of a group's points, and those of its equations: one cannot be taken for the other.
-#[derive(Drop)]
+#[derive(Clone, Copy)]
 pub struct Points(pub Listed);
 
-#[derive(Drop)]
+#[derive(Clone, Copy)]
 pub struct Equations(pub Listed);
 
 // The free coordinates of a group: the k-th point's are 2 k and 2 k + 1. What is past the count is 0.
-#[derive(Drop)]
+#[derive(Clone, Copy)]
 pub struct Coordinates {
     pub items: [usize; 80],
     pub count: usize,

@@ -15,7 +15,7 @@ pub use half::product;
 pub use step::moved;
 
 // What a call came to. A refusal changes nothing that is lent.
-#[derive(Drop)]
+#[derive(Clone, Copy)]
 pub enum Made {
     Done,
     // 3: more than 80 rows or free coordinates.
@@ -25,7 +25,7 @@ pub enum Made {
 }
 
 // The largest number on a diagonal, or why there is none.
-#[derive(Drop)]
+#[derive(Clone, Copy)]
 pub enum Largest {
     Of(f64),
     // 3: more than 80 rows.

@@ -12,7 +12,7 @@ mod reflect;
 mod units;
 
 // What a call came to. A refusal changes nothing that is lent.
-#[derive(Drop)]
+#[derive(Clone, Copy)]
 pub enum NullSpace {
     // The rank. The basis vectors lie one after another at the head of the output.
     Rank(usize),

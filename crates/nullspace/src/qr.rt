@@ -10,7 +10,7 @@ use crate::reflect;
 use loops::smaller;
 
 // A column and its remaining norm.
-#[derive(Drop)]
+#[derive(Clone, Copy)]
 struct Column {
     row: usize,
     norm: f64,
@@ -97,7 +97,7 @@ fn make_reflector(t: &mut [f64], n: usize, k: usize, row: usize, norm: f64)
 }
 
 // Whether a turn goes on, and what the first norm is then.
-#[derive(Drop)]
+#[derive(Clone, Copy)]
 struct Step {
     on: bool,
     first: f64,

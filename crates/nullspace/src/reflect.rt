@@ -54,7 +54,7 @@ pub(crate) fn reflect_rows(t: &mut [f64], n: usize, m: usize, vv: f64)
 }
 
 // The product of two vectors, and the first one's with itself: two sums that do not wait for each other.
-#[derive(Drop)]
+#[derive(Clone, Copy)]
 struct Sums {
     dot: f64,
     norm: f64,

@@ -19,7 +19,7 @@ use sketch::{Equation, Kind, Measure, Operand, Sort};
 use spelling::Cursor;
 
 // The sorts of a kind's fields, in their order.
-#[derive(Drop)]
+#[derive(Clone, Copy)]
 pub enum Sorts {
     None,
     One(Sort),
@@ -30,37 +30,37 @@ pub enum Sorts {
 }
 
 // What was read, and the place after it.
-#[derive(Drop)]
+#[derive(Clone, Copy)]
 pub struct KindRead {
     pub kind: Kind,
     pub next: Cursor,
 }
 
-#[derive(Drop)]
+#[derive(Clone, Copy)]
 pub struct VecRead {
     pub vec: Vec2,
     pub next: Cursor,
 }
 
-#[derive(Drop)]
+#[derive(Clone, Copy)]
 pub struct OperandRead {
     pub read: Operand,
     pub next: Cursor,
 }
 
-#[derive(Drop)]
+#[derive(Clone, Copy)]
 pub struct FieldsRead {
     pub operands: [Operand; 5],
     pub next: Cursor,
 }
 
-#[derive(Drop)]
+#[derive(Clone, Copy)]
 pub struct EquationRead {
     pub equation: Equation,
     pub next: Cursor,
 }
 
-#[derive(Drop)]
+#[derive(Clone, Copy)]
 pub struct MeasureRead {
     pub measure: Measure,
     pub next: Cursor,

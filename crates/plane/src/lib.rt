@@ -6,14 +6,14 @@
 ghost use Rattle.std.specs.Prelude.{◌≡◌};
 ghost use Rattle.plane.specs.Vectors.{sub_of, neg_of, dot_of, cross_of, norm_of, unit_from_of, across_of, in_units};
 
-#[derive(Drop)]
+#[derive(Clone, Copy)]
 pub struct Vec2 {
     pub x: f64,
     pub y: f64,
 }
 
 // A unit direction, and the length that it was divided by.
-#[derive(Drop)]
+#[derive(Clone, Copy)]
 pub struct Dir {
     pub u: Vec2,
     pub len: f64,

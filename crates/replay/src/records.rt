@@ -5,7 +5,7 @@ ghost use Rattle.replay.specs.Records.{record_at, placed};
 use spelling::{Cursor, eat, whole};
 
 // The text is from `text` up to `reply`, the reply from there up to `end`. Where `found` is false there is no record.
-#[derive(Drop)]
+#[derive(Clone, Copy)]
 pub struct Record {
     pub text: usize,
     pub reply: usize,

@@ -8,7 +8,7 @@ use crate::records::{Record, record_at};
 use crate::say::differs;
 
 // Where the next record starts, and how the ones before it came out.
-#[derive(Drop)]
+#[derive(Clone, Copy)]
 pub struct Tally {
     pub at: usize,
     pub same: usize,

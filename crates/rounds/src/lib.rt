@@ -19,7 +19,7 @@ use sketch::{Active, Line};
 
 // What a fit is of: the chosen equations of a build, its lines, the tables of a point's place in the group and of a coordinate's
 // among the free ones, and which coordinates these are.
-#[derive(Drop)]
+#[derive(Clone, Copy)]
 pub struct Posed {
     pub equations: [Active; 40],
     pub lines: [Line; 40],
@@ -30,7 +30,7 @@ pub struct Posed {
 }
 
 // Why a fit failed, in document 02's order.
-#[derive(Drop)]
+#[derive(Clone, Copy)]
 pub enum Reason {
     // No coordinate is free.
     NothingFree,
@@ -46,7 +46,7 @@ pub enum Reason {
 
 // Where the fit stands beside its coordinates and residuals: `cost`, `mu`, `polish`, the rounds and tries begun, and what is said where it
 // fails here.
-#[derive(Drop)]
+#[derive(Clone, Copy)]
 pub struct Fit {
     pub cost: f64,
     pub mu: f64,
@@ -57,14 +57,14 @@ pub struct Fit {
 }
 
 // What a try came to, or a round's tries: whether one was taken, and where the fit stands.
-#[derive(Drop)]
+#[derive(Clone, Copy)]
 pub(crate) struct Attempted {
     pub(crate) improved: bool,
     pub(crate) fit: Fit,
 }
 
 // What a round leads to.
-#[derive(Drop)]
+#[derive(Clone, Copy)]
 pub(crate) struct Step {
     pub(crate) ended: bool,
     pub(crate) converged: bool,
@@ -72,14 +72,14 @@ pub(crate) struct Step {
 }
 
 // How a fit ended, and where it stood.
-#[derive(Drop)]
+#[derive(Clone, Copy)]
 pub(crate) struct Ended {
     pub(crate) converged: bool,
     pub(crate) fit: Fit,
 }
 
 // What a call came to. A refusal changes nothing that is lent.
-#[derive(Drop)]
+#[derive(Clone, Copy)]
 pub enum FitEnding {
     Converged,
     // No coordinates are handed out.
@@ -90,7 +90,7 @@ pub enum FitEnding {
     TooShort,
 }
 
-#[derive(Drop)]
+#[derive(Clone, Copy)]
 pub struct Solved {
     pub ending: FitEnding,
     pub iterations: usize,

@@ -17,21 +17,21 @@ use sketch::{Line, LineNo, PointNo};
 pub use sweep::residuals;
 
 // A part of a row's gradient: what it is with respect to a point's two coordinates.
-#[derive(Drop)]
+#[derive(Clone, Copy)]
 pub struct Entry {
     pub point: PointNo,
     pub d: Vec2,
 }
 
 // The numbers of the lines that an equation names: a kind with one line has it first, and line 0 stands where no line is named.
-#[derive(Drop)]
+#[derive(Clone, Copy)]
 pub struct LineNos {
     pub first: LineNo,
     pub second: LineNo,
 }
 
 // The ends of these lines.
-#[derive(Drop)]
+#[derive(Clone, Copy)]
 pub struct Ends {
     pub first: Line,
     pub second: Line,

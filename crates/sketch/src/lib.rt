@@ -15,46 +15,46 @@ use plane::Vec2;
 pub use touches::involved;
 
 // A point number.
-#[derive(Drop)]
+#[derive(Clone, Copy)]
 pub struct PointNo(pub usize);
 
 // A line number.
-#[derive(Drop)]
+#[derive(Clone, Copy)]
 pub struct LineNo(pub usize);
 
 // A position among the free coordinates.
-#[derive(Drop)]
+#[derive(Clone, Copy)]
 pub struct FreeNo(pub usize);
 
 // A point moves, stays where it was drawn, or stands at a place given for it.
-#[derive(Drop)]
+#[derive(Clone, Copy)]
 pub enum State {
     Free,
     Kept,
     Placed(Vec2),
 }
 
-#[derive(Drop)]
+#[derive(Clone, Copy)]
 pub struct Point {
     pub start: Vec2,
     pub state: State,
 }
 
-#[derive(Drop)]
+#[derive(Clone, Copy)]
 pub struct Line {
     pub from: PointNo,
     pub to: PointNo,
 }
 
 // The radius of an arc, by a point on it, or of a circle, as a value.
-#[derive(Drop)]
+#[derive(Clone, Copy)]
 pub enum Rad {
     Point(PointNo),
     Value(f64),
 }
 
 // Two circles touch outside, or inside with the sign of the difference of their radii.
-#[derive(Drop)]
+#[derive(Clone, Copy)]
 pub enum Contact {
     Outside,
     Inside(f64),
@@ -62,7 +62,7 @@ pub enum Contact {
 
 // The equations, with the Rust's names and fields in the Rust's order. Lengths are in units of the build's size, an axis
 // is 0 for X and 1 for Y, a side is 1.0 or -1.0.
-#[derive(Drop)]
+#[derive(Clone, Copy)]
 pub enum Equation {
     Coincident(PointNo, PointNo),
     Level(PointNo, PointNo, usize),
@@ -88,7 +88,7 @@ pub enum Equation {
 }
 
 // What is measured: the equation of the same name with the value 0.
-#[derive(Drop)]
+#[derive(Clone, Copy)]
 pub enum Measure {
     Distance(PointNo, PointNo),
     AxisDistance(PointNo, PointNo, usize, f64),
@@ -98,7 +98,7 @@ pub enum Measure {
 }
 
 // The kinds of equations, by name.
-#[derive(Drop)]
+#[derive(Clone, Copy)]
 pub enum Kind {
     Coincident,
     Level,
@@ -124,7 +124,7 @@ pub enum Kind {
 }
 
 // The sorts of an equation's fields.
-#[derive(Drop)]
+#[derive(Clone, Copy)]
 pub enum Sort {
     Point,
     Line,
@@ -136,7 +136,7 @@ pub enum Sort {
 }
 
 // The kinds that are measured: a measure has the fields of its kind, but for the value.
-#[derive(Drop)]
+#[derive(Clone, Copy)]
 pub enum Gauge {
     Distance,
     AxisDistance,
@@ -148,7 +148,7 @@ pub enum Gauge {
 // What stands in a field: a point's, a line's or an axis's number, a value or a side, a radius or a contact. A radius by a point
 // and a contact outside are bare, which is 1: they have no value. It is a number since a bool leaves a gap, and a struct with a gap
 // is slow to move.
-#[derive(Drop)]
+#[derive(Clone, Copy)]
 pub struct Operand {
     pub number: usize,
     pub value: f64,
@@ -156,17 +156,17 @@ pub struct Operand {
 }
 
 // An array in a build holds structs, so an equation and a measure each stand in one of their own.
-#[derive(Drop)]
+#[derive(Clone, Copy)]
 pub struct Active {
     pub equation: Equation,
 }
 
-#[derive(Drop)]
+#[derive(Clone, Copy)]
 pub struct Measured {
     pub measure: Measure,
 }
 
-#[derive(Drop)]
+#[derive(Clone, Copy)]
 pub struct Build {
     pub centre: Vec2,
     pub size: f64,
@@ -181,14 +181,14 @@ pub struct Build {
 }
 
 // The points that an equation touches: at most four; the places past the count hold point 0.
-#[derive(Drop)]
+#[derive(Clone, Copy)]
 pub struct Touched {
     pub points: [PointNo; 4],
     pub count: usize,
 }
 
 // The endings of a job, by name; document 01's number of each is `number_of`.
-#[derive(Drop)]
+#[derive(Clone, Copy)]
 pub enum Ending {
     Fitted,
     TooLong,
@@ -202,7 +202,7 @@ pub enum Ending {
 }
 
 // What the check before a fit finds.
-#[derive(Drop)]
+#[derive(Clone, Copy)]
 pub enum Checked {
     Passes,
     Ends(Ending),

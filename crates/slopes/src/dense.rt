@@ -9,7 +9,7 @@ use rows::located::{local, wide};
 use sketch::{FreeNo, PointNo};
 
 // A row of n free coordinates, which starts at `base` in the lent slice.
-#[derive(Drop)]
+#[derive(Clone, Copy)]
 pub(crate) struct Into {
     pub n: usize,
     pub base: usize,

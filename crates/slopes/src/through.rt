@@ -13,7 +13,7 @@ use rows::vectors::times_vec;
 use sketch::{Line, PointNo, Rad};
 
 // A line, its direction, and the gradient with respect to that.
-#[derive(Drop)]
+#[derive(Clone, Copy)]
 pub(crate) struct Leg(pub Line, pub Dir, pub Vec2);
 
 // The ends of a line, given the gradient with respect to its direction.

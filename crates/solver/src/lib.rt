@@ -22,7 +22,7 @@ pub fn norm2(v: &[f64]) -> f64
 }
 
 // What elimination came to. A refusal changes nothing that is lent.
-#[derive(Drop)]
+#[derive(Clone, Copy)]
 pub enum Elimination {
     // The right side's first n places hold the answer.
     Some,

@@ -43,7 +43,7 @@ fn pivot_row(a: &[f64], n: usize, col: usize) -> usize
 }
 
 // A row and its magnitude in the pivot column.
-#[derive(Drop)]
+#[derive(Clone, Copy)]
 struct Candidate {
     row: usize,
     size: u64,

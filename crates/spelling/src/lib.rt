@@ -13,26 +13,26 @@ pub use places::{eat, word};
 pub use wholes::whole;
 
 // The next byte to read, and whether everything before it was as it should be.
-#[derive(Drop)]
+#[derive(Clone, Copy)]
 pub struct Cursor {
     pub at: usize,
     pub ok: bool,
 }
 
 // What was read, and the place after it.
-#[derive(Drop)]
+#[derive(Clone, Copy)]
 pub struct WholeRead {
     pub value: usize,
     pub next: Cursor,
 }
 
-#[derive(Drop)]
+#[derive(Clone, Copy)]
 pub struct BitsRead {
     pub bits: u64,
     pub next: Cursor,
 }
 
-#[derive(Drop)]
+#[derive(Clone, Copy)]
 pub struct FloatRead {
     pub value: f64,
     pub next: Cursor,

@@ -12,62 +12,62 @@ use sketch::{Active, Build, Ending, Line, Measured, Point, State};
 use spelling::Cursor;
 
 // What was read, and the place after it.
-#[derive(Drop)]
+#[derive(Clone, Copy)]
 pub struct StateRead {
     pub state: State,
     pub next: Cursor,
 }
 
-#[derive(Drop)]
+#[derive(Clone, Copy)]
 pub struct PointRead {
     pub point: Point,
     pub next: Cursor,
 }
 
-#[derive(Drop)]
+#[derive(Clone, Copy)]
 pub struct LineRead {
     pub line: Line,
     pub next: Cursor,
 }
 
-#[derive(Drop)]
+#[derive(Clone, Copy)]
 pub struct ActiveRead {
     pub active: Active,
     pub next: Cursor,
 }
 
-#[derive(Drop)]
+#[derive(Clone, Copy)]
 pub struct MeasuredRead {
     pub measured: Measured,
     pub next: Cursor,
 }
 
 // The items of one sort; those past the count are blank.
-#[derive(Drop)]
+#[derive(Clone, Copy)]
 pub struct PointsRead {
     pub points: [Point; 40],
     pub next: Cursor,
 }
 
-#[derive(Drop)]
+#[derive(Clone, Copy)]
 pub struct LinesRead {
     pub lines: [Line; 40],
     pub next: Cursor,
 }
 
-#[derive(Drop)]
+#[derive(Clone, Copy)]
 pub struct EquationsRead {
     pub equations: [Active; 40],
     pub next: Cursor,
 }
 
-#[derive(Drop)]
+#[derive(Clone, Copy)]
 pub struct MeasuresRead {
     pub measures: [Measured; 20],
     pub next: Cursor,
 }
 
-#[derive(Drop)]
+#[derive(Clone, Copy)]
 pub struct CountsRead {
     pub points: usize,
     pub lines: usize,
@@ -76,21 +76,21 @@ pub struct CountsRead {
     pub next: Cursor,
 }
 
-#[derive(Drop)]
+#[derive(Clone, Copy)]
 pub struct BuildRead {
     pub build: Build,
     pub next: Cursor,
 }
 
 // A text was read, or it ends the job.
-#[derive(Drop)]
+#[derive(Clone, Copy)]
 pub enum Outcome {
     Read,
     Ends(Ending),
 }
 
 // The build that a text holds. An array cannot stand in an enum, so the build is beside the outcome; after a refusal it holds nothing.
-#[derive(Drop)]
+#[derive(Clone, Copy)]
 pub struct Reading {
     pub outcome: Outcome,
     pub build: Build,

@@ -11,8 +11,7 @@ use borrow.Author.Tests.{lt-ltb, le-ltb}
 use Rattle.root.specs.Whole.{Over, Under, Root}
 use Rattle.root.proofs.Whole.{no_tie, up}
 use Rattle.root.proofs.Halves.{square-over, square-under, square-small}
-use Rattle.root.proofs.settle.Statement.{statement}
-use Rattle.root.proofs.settle.Tie as tie
+use Rattle.root.proofs.settle.Goals as goal
 
 one_at_most : (b : Bool) → bool_byte b ≤ 1
 one_at_most true = omega arith
@@ -46,54 +45,37 @@ here t r f sq h d =
     let e : r - 1 + 1 ≡ r = omega arith in
     (subst (λ (n : ℕ). f ≡ (2 * n + 1) * (2 * n + 1) / 2 ^ 46 → f < t + n / 0x800_0000_0000 → Over t n) e (lower t (r - 1) f) sq d, under t r f sq h)
 
-add_a : tie.Need-overflow-add-a
-add_a c = omega (arith, one_at_most (ltb c.square.result c.before.args.t))
+pub overflow_add-a : goal.overflow_add-a
+overflow_add-a c = omega (arith, one_at_most (ltb c.square-f.result c.args.t))
 
-add-if1 : tie.Need-overflow-add-if1
-add-if1 c = omega (arith, square-small (2 * c.before.args.r + 1) c.square.result c.square.ensures (search rules))
+pub overflow_add-f : goal.overflow_add-f
+overflow_add-f c = omega (arith, square-small (2 * c.args.r + 1) c.square-f.result c.square-f.ensures (search rules))
 
-returns : tie.Need-returns
-returns c =
-    let t = c.before.before.before.args.t in
-    let r = c.before.before.before.args.r in
-    let f = c.before.before.square.result in
-    let e = c.before.before.square.ensures in
+pub returns-then-f-t : goal.returns-then-f-t
+returns-then-f-t c =
+    let t = c.args.t in
+    let r = c.args.r in
+    let f = c.square-f.result in
+    let e = c.square-f.ensures in
     elim (dec_lt f t) [
-      | yes h ↦ subst⁻¹ (Root t) (more t r f h) (next t r f e h c.before.if1.true)
+      | yes h ↦ subst⁻¹ (Root t) (more t r f h) (next t r f e h c.if-t-f.true)
       | no h ↦
           let g : t ≤ f = omega arith in
-          subst⁻¹ (Root t) (same t r f g) (here t r f e g c.if2.true)
+          subst⁻¹ (Root t) (same t r f g) (here t r f e g c.if-f-t.true)
     ]
 
-fall-requires : tie.Need-fall-requires
-fall-requires c κs =
-    let t = c.before.before.before.args.t in
-    let r = c.before.before.before.args.r in
-    let f = c.before.before.square.result in
+pub fall-requires : goal.fall-requires
+fall-requires c =
+    let t = c.args.t in
+    let r = c.args.r in
+    let f = c.square-f.result in
     let h : t ≤ f = omega arith in
-    (search rules, subst⁻¹ (λ (a : ℕ). a ≤ 2 ^ 53) (same t r f h) (omega arith), subst⁻¹ (Under t) (same t r f h) (under t r f c.before.before.square.ensures h))
+    (search rules, subst⁻¹ (λ (a : ℕ). a ≤ 2 ^ 53) (same t r f h) (omega arith), subst⁻¹ (Under t) (same t r f h) (under t r f c.square-f.ensures h))
 
-climb-requires : tie.Need-climb-requires
-climb-requires c κs =
-    let t = c.before.before.args.t in
-    let r = c.before.before.args.r in
-    let f = c.before.square.result in
+pub climb-requires : goal.climb-requires
+climb-requires c =
+    let t = c.args.t in
+    let r = c.args.r in
+    let f = c.square-f.result in
     let h : f < t = omega arith in
-    (search rules, subst⁻¹ (Over t) (more t r f h) (above t r f c.before.square.ensures h))
-
-pub settle-spec : {M : Type 1} → statement M
-settle-spec =
-    tie.close
-    (tie.spec
-    (λ c. search rules)
-    (λ c. search rules)
-    (λ c κs. search rules)
-    (λ c. search rules)
-    add_a
-    add-if1
-    (λ c. search rules)
-    returns
-    fall-requires
-    (λ c. search rules)
-    climb-requires
-    (λ c. search rules))
+    (search rules, subst⁻¹ (Over t) (more t r f h) (above t r f c.square-f.ensures h))

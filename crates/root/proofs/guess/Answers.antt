@@ -13,8 +13,7 @@ use Rattle.root.proofs.Place.{count-is}
 use Rattle.root.proofs.Value.{bits-value, bits_positive}
 use Rattle.root.proofs.Patterns.{no_nan}
 use Rattle.root.proofs.Bounded.{Within, within-value, wider, mul-within, add-within, sub_within, newton-number}
-use Rattle.root.proofs.guess.Statement.{statement}
-use Rattle.root.proofs.guess.Tie as tie
+use Rattle.root.proofs.guess.Goals as goal
 
 -- a pattern up to that of 2 ^ i
 bits-within : (i b : ℕ) → i ≤ 900 → b ≤ (1022 + i) * 2 ^ 52 + 2 ^ 52 → Within i (of_bits binary64 b)
@@ -47,17 +46,14 @@ bounded v y c₀ c₁ c₂ c₃ c₄ hv hy h₀ h₁ h₂ h₃ h₄ =
     let hp : Within 49 p = add-within 46 f (mul binary64 b k) (lit≤ tt) (wider 16 46 f (lit≤ tt) (line c₀ c₁ h₀ h₁)) (mul-within 18 26 b k (lit≤ tt) hb hk) in
     mul-within 4 49 w p (lit≤ tt) hw hp
 
-float-from-bits-v : tie.Need-float-from-bits-v
-float-from-bits-v c = no_nan _ (omega arith)
+pub float_from_bits-v : goal.float_from_bits-v
+float_from_bits-v c = no_nan _ (omega arith)
 
-float-from-bits-y : tie.Need-float-from-bits-y
-float-from-bits-y c = no_nan _ (omega arith)
+pub float_from_bits-y : goal.float_from_bits-y
+float_from_bits-y c = no_nan _ (omega arith)
 
-returns : tie.Need-returns
+pub returns : goal.returns
 returns c =
     let const : (b : ℕ) → b ≤ 1026 * 2 ^ 52 → Within 3 (of_bits binary64 b) = λ b h. bits-within 3 b (lit≤ tt) h in
     newton-number 55 _ _ (bits_positive c.args.bits (omega arith) (omega arith))
     (bounded _ _ _ _ _ _ _ (bits-within 0 c.args.bits (lit≤ tt) (omega arith)) (bits-within 2 _ (lit≤ tt) (omega arith)) (const _ (lit≤ tt)) (const _ (lit≤ tt)) (const _ (lit≤ tt)) (const _ (lit≤ tt)) (const _ (lit≤ tt)))
-
-pub guess-spec : {M : Type 1} → statement M
-guess-spec = tie.close (tie.spec float-from-bits-v (λ c. search rules) float-from-bits-y returns)

@@ -1,0 +1,13 @@
+use Prim.Native.Nat.{◌-◌, ◌*◌, ◌^◌, ◌≤◌}
+use native.Mathlib.Omega.{arith}
+use borrow.Author.Rules.{rules}
+use Rattle.root.specs.Whole.{Under}
+use Rattle.root.proofs.Whole.{under-large, down}
+use Rattle.root.proofs.Halves.{square-over, square-under}
+use Rattle.root.proofs.fall.Given as goal
+
+abbrev pub invariant-loop-a : goal.invariant-loop-a
+invariant-loop-a l = (l.a ≤ 2 ^ 53) × Under l.t l.a
+
+abbrev pub decreases-loop-a : goal.decreases-loop-a
+decreases-loop-a l = l.a
