@@ -1,0 +1,29 @@
+-- Assumes nothing.
+use Prim.Native.Nat.{◌≤◌, ◌-◌}
+use mathlib.Core.Path.{◌≡◌, refl}
+use borrow.Author.Rules.{rules}
+use lib.ListN.{take, drop}
+use Rattle.loops.specs.Turns.{every}
+use Rattle.sketch.specs.Indices.{found_active}
+use Rattle.sketch.proofs.Taken.{taken_next, taken-stop, taken-done}
+use Rattle.sketch.proofs.indices.equations_found.Goals as goal
+
+pub loop-i-init : goal.loop-i-init
+loop-i-init c = (search rules, refl)
+
+pub returns-then-not-equation_found : goal.returns-then-not-equation_found
+returns-then-not-equation_found c =
+    let a = c.args in
+    let l = c.loop-i in
+    taken-stop (found_active a.n a.m) a.equations _ a.k l.i _ _ c.equation_found.ensures c.if-not-equation_found.true-raw (search rules) (search rules) l.invariant.1
+
+pub loop-i-preserved : goal.loop-i-preserved
+loop-i-preserved c =
+    let a = c.args in
+    let l = c.loop-i in
+    (search rules, taken_next (found_active a.n a.m) a.equations _ a.k l.i _ _ c.equation_found.ensures c.if-not-equation_found.false-raw (search rules) (search rules) l.invariant.1)
+
+pub returns : goal.returns
+returns c =
+    let a = c.args in
+    taken-done (found_active a.n a.m) a.equations a.k c.loop-i.i _ (search rules) (search rules) c.loop-i.invariant.1

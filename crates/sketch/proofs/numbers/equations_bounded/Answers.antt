@@ -1,0 +1,29 @@
+-- Assumes nothing.
+use Prim.Native.Nat.{◌≤◌, ◌-◌}
+use mathlib.Core.Path.{◌≡◌, refl}
+use borrow.Author.Rules.{rules}
+use lib.ListN.{take, drop}
+use Rattle.loops.specs.Turns.{every}
+use Rattle.sketch.specs.Numbers.{bounded_active}
+use Rattle.sketch.proofs.Taken.{taken_next, taken-stop, taken-done}
+use Rattle.sketch.proofs.numbers.equations_bounded.Goals as goal
+
+pub loop-i-init : goal.loop-i-init
+loop-i-init c = (search rules, refl)
+
+pub returns-then-not-equation_bounded : goal.returns-then-not-equation_bounded
+returns-then-not-equation_bounded c =
+    let a = c.args in
+    let l = c.loop-i in
+    taken-stop bounded_active a.equations _ a.n l.i _ _ c.equation_bounded.ensures c.if-not-equation_bounded.true-raw (search rules) (search rules) l.invariant.1
+
+pub loop-i-preserved : goal.loop-i-preserved
+loop-i-preserved c =
+    let a = c.args in
+    let l = c.loop-i in
+    (search rules, taken_next bounded_active a.equations _ a.n l.i _ _ c.equation_bounded.ensures c.if-not-equation_bounded.false-raw (search rules) (search rules) l.invariant.1)
+
+pub returns : goal.returns
+returns c =
+    let a = c.args in
+    taken-done bounded_active a.equations a.n c.loop-i.i _ (search rules) (search rules) c.loop-i.invariant.1
