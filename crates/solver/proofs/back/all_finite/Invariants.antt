@@ -1,0 +1,13 @@
+use borrow.Author.Tests.{not-true, not-false}
+use Prim.Native.Nat.{◌≤◌, ◌-◌}
+use mathlib.Core.Path.{◌≡◌, refl}
+use lib.ListN.{length, drop}
+use lib.Ieee.{nan}
+use lib.Ieee.Scale.{finite}
+use borrow.Author.Rules.{rules}
+use Rattle.loops.specs.Turns.{every}
+use Rattle.loops.proofs.Turning.{every-next, every-stop, every-done}
+use Rattle.solver.proofs.back.all_finite.Given as goal
+
+abbrev pub invariant-loop-i : goal.invariant-loop-i
+invariant-loop-i l = (l.i-end ≡ length l.y) × (l.i ≤ l.i-end) × (every finite (drop l.i l.y) ≡ every finite l.y)

@@ -1,0 +1,12 @@
+use Prim.Native.Nat.{◌≤◌, ◌-◌}
+use mathlib.Core.Path.{◌≡◌, refl}
+use lib.Ieee.{neg, of_bits}
+use borrow.Author.Rules.{rules}
+use Rattle.loops.specs.Turns.{up_to}
+use Rattle.loops.proofs.Turning.{up_to-next, up_to-done}
+use Rattle.loops.proofs.Cells.{cells}
+use Rattle.solver.specs.Steps.{add_term, sum_of}
+use Rattle.solver.proofs.back.weight.Given as goal
+
+abbrev pub invariant-loop-c : goal.invariant-loop-c
+invariant-loop-c l = (l.c ≤ l.n) × (up_to l.n l.c (add_term l.n l.r l.a l.y) l.s ≡ sum_of l.n l.r l.a l.y)

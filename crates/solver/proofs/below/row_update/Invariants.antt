@@ -1,0 +1,11 @@
+use Prim.Native.Nat.{◌≤◌, ◌-◌}
+use mathlib.Core.Path.{◌≡◌, refl}
+use lib.ListN.{length}
+use borrow.Author.Rules.{rules}
+use Rattle.loops.specs.Turns.{up_to}
+use Rattle.loops.proofs.Turning.{up_to-next, up_to-done}
+use Rattle.solver.specs.Steps.{less_past}
+use Rattle.solver.proofs.below.row_update.Given as goal
+
+abbrev pub invariant-loop-c : goal.invariant-loop-c
+invariant-loop-c l = (l.c ≤ l.len) × (length l.s ≡ length l.initial.s) × (up_to l.len l.c (less_past l.off l.f) l.s ≡ up_to l.len 0 (less_past l.off l.f) l.initial.s)

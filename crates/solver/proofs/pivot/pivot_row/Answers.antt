@@ -1,0 +1,34 @@
+use Prim.Native.Nat.{◌≤◌, ◌-◌}
+use mathlib.Core.Path.{◌≡◌, refl}
+use borrow.Author.Rules.{rules}
+use Rattle.loops.specs.Turns.{up_to}
+use Rattle.loops.proofs.Turning.{up_to-next, up_to-done}
+use Rattle.loops.proofs.Cells.{cells}
+use Rattle.solver.specs.Inside.{Sized}
+use Rattle.solver.specs.Steps.{larger_row, pivot_of}
+use Rattle.solver.proofs.pivot.pivot_row.Goals as goal
+
+pub overflow_mul-col : goal.overflow_mul-col
+overflow_mul-col c = search (cells, rules)
+
+pub overflow_add-col : goal.overflow_add-col
+overflow_add-col c = search (cells, rules)
+
+pub offset_bounds-a-col : goal.offset_bounds-a-col
+offset_bounds-a-col c = search (cells, rules)
+
+pub bounds-a-col : goal.bounds-a-col
+bounds-a-col c = search (cells, rules)
+
+pub loop-row-init : goal.loop-row-init
+unfolding pivot_of
+loop-row-init c = (search rules, record { within = c.requires.0; size = c.magnitude.ensures }, refl)
+
+pub larger_row-best-requires : goal.larger_row-best-requires
+larger_row-best-requires c = ((search rules, (search rules, search rules)), search rules)
+
+pub loop-row-preserved : goal.loop-row-preserved
+loop-row-preserved c = (search rules, search rules, search (up_to-next, rules))
+
+pub returns : goal.returns
+returns c = (search (up_to-done, rules), c.loop-row.invariant.1.within)

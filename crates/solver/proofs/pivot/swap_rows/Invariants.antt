@@ -1,0 +1,14 @@
+use Prim.Native.Nat.{◌≤◌, ◌-◌}
+use mathlib.Core.Path.{◌≡◌, refl}
+use lib.ListN.{length}
+use borrow.Author.Rules.{rules}
+use Rattle.floats.specs.Lists.{swap_at}
+use Rattle.loops.specs.Turns.{up_to}
+use Rattle.loops.proofs.Turning.{up_to-next, up_to-done}
+use Rattle.loops.proofs.Cells.{cells}
+use Rattle.solver.specs.Lesser.{part_swapped}
+use Rattle.solver.specs.Steps.{swap_column}
+use Rattle.solver.proofs.pivot.swap_rows.Given as goal
+
+abbrev pub invariant-loop-c : goal.invariant-loop-c
+invariant-loop-c l = (l.c ≤ l.n) × (length l.a ≡ length l.initial.a) × (up_to l.n l.c (swap_column l.n l.piv l.col) l.a ≡ part_swapped l.n l.col l.piv l.initial.a)

@@ -1,0 +1,6 @@
+-- Assumes nothing.
+use borrow.Author.Rules.{rules}
+use Rattle.spelling.proofs.floating.float.Goals as goal
+
+pub returns : goal.returns
+returns c = rw (c.float_of.ensures, c.bits-f.ensures)
