@@ -1,0 +1,5 @@
+use borrow.Author.Rules.{rules}
+use Rattle.nullspace.proofs.basis.vector.Goals as goal
+
+pub returns : goal.returns
+returns c = cc

@@ -1,0 +1,7 @@
+use Rattle.nullspace.specs.Steps.{away}
+use borrow.Author.Rules.{rules}
+use Rattle.nullspace.proofs.qr.push_away.Goals as goal
+
+pub returns : goal.returns
+unfolding away
+returns c = rw c.signed.ensures

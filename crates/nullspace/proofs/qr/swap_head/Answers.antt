@@ -1,0 +1,18 @@
+use Prim.Native.Nat.{◌≤◌, ◌-◌}
+use mathlib.Core.Path.{◌≡◌, refl}
+use lib.ListN.{length}
+use borrow.Author.Rules.{rules}
+use Rattle.loops.specs.Turns.{up_to}
+use Rattle.loops.proofs.Turning.{up_to-next, up_to-done}
+use Rattle.nullspace.specs.Layout.{swap_head}
+use Rattle.nullspace.proofs.qr.swap_head.Goals as goal
+
+pub loop-c-init : goal.loop-c-init
+loop-c-init c = (search rules, refl, refl)
+
+pub loop-c-preserved : goal.loop-c-preserved
+unfolding swap_head
+loop-c-preserved c = (search rules, search rules, search (up_to-next, rules))
+
+pub returns : goal.returns
+returns c = search (up_to-done, rules)

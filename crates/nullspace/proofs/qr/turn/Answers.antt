@@ -1,0 +1,66 @@
+-- A turn ends at the norm, or at `vv`, or goes on; in each case by the longest column that was found. Assumes nothing.
+use Prim.Native.Nat.{ℕ}
+use mathlib.Core.Bool.{Bool, true, false, cond, false≢true}
+use mathlib.Core.List.{List}
+use mathlib.Core.Path.{◌≡◌, ap, ◌∙◌}
+use native.Mathlib.Nat.{mul-le-mul_right}
+use native.Mathlib.Omega.{arith}
+use lib.Dec.{eqb}
+use lib.ListN.{take}
+use lib.Ieee.{Float, eq}
+use Rattle.floats.specs.Ops.{zero⁺}
+use Rattle.solver.specs.Sums.{norm2_of}
+use Rattle.loops.proofs.Parts.{front}
+use Rattle.loops.proofs.Cells.{cell_row}
+use Rattle.nullspace.specs.Steps.{ended}
+use Rattle.nullspace.specs.Layout.{begun, first_norm_of, largest_norm, longest_of, norm_at, reflected_by, reflector_at, turned, turns-on}
+use borrow.Author.Rules.{rules}
+use Rattle.nullspace.proofs.qr.turn.Goals as goal
+
+module _ (n m k : ℕ) (first norm : Float) (t : List Float) (row : ℕ) (found : row ≡ longest_of n m k t) (size : norm ≡ norm_at n k t row) where
+  norm-is : norm ≡ largest_norm n m k t
+  unfolding largest_norm
+  norm-is = size ∙ ap (norm_at n k t) found
+
+  next-is : (x : Float) → x ≡ cond (eqb k 0) norm first → x ≡ first_norm_of n m k first t
+  unfolding first_norm_of
+  next-is x e = rw (← norm-is) e
+
+  early : (b : Bool) → b ≡ ended first norm → b ≡ true → false ≡ turns-on n m k first t
+  unfolding turns-on
+  early b e o = rw (← norm-is, ← e, o)
+
+  module _ (b : Bool) (e : b ≡ ended first norm) (o : b ≡ false) (t₁ : List Float) (made : t₁ ≡ reflector_at n k row norm t) (vv : Float) (square : vv ≡ norm2_of (take n t₁)) where
+    begun-is : t₁ ≡ begun n m k t
+    unfolding begun
+    begun-is = rw (← norm-is, ← found) made
+
+    late : eq vv zero⁺ ≡ true → false ≡ turns-on n m k first t
+    unfolding turns-on
+    late z = rw (← norm-is, ← e, o, ← begun-is, ← square, z)
+
+    on : eq vv zero⁺ ≡ false → true ≡ turns-on n m k first t
+    unfolding turns-on
+    on z = rw (← norm-is, ← e, o, ← begun-is, ← square, z)
+
+    left : (y : List Float) → y ≡ reflected_by n m vv t₁ → y ≡ turned n m k t
+    unfolding turned
+    left y q = rw (← begun-is, ← square) q
+
+pub returns-then-is_ended : goal.returns-then-is_ended
+returns-then-is_ended c = let e = c.longest-best.ensures in record { on = early _ _ _ _ _ _ _ e.0 e.1.norm _ c.is_ended.ensures c.if-is_ended.true; next = next-is _ _ _ _ _ _ _ e.0 e.1.norm _ c.first_norm-next.ensures; left = λ o. absurd (false≢true o) }
+
+pub make_reflector-requires : goal.make_reflector-requires
+make_reflector-requires c = (search rules, omega (arith, cell_row _ _ _ _ c.longest-best.ensures.1.within c.requires.1))
+
+pub slice_bounds-norm2-end : goal.slice_bounds-norm2-end
+slice_bounds-norm2-end c = omega (arith, mul-le-mul_right c.args.n c.requires.0.1, c.make_reflector.auto.t)
+
+pub slice_bounds-norm2-end-2 : goal.slice_bounds-norm2-end-2
+slice_bounds-norm2-end-2 c = front _ _ (omega (arith, mul-le-mul_right c.args.n c.requires.0.1, c.make_reflector.auto.t))
+
+pub returns-then-vv : goal.returns-then-vv
+returns-then-vv c = let e = c.longest-best.ensures in record { on = late _ _ _ _ _ _ _ e.0 e.1.norm _ c.is_ended.ensures c.if-is_ended.false _ c.make_reflector.ensures _ c.norm2-vv.ensures c.if-vv.true; next = next-is _ _ _ _ _ _ _ e.0 e.1.norm _ c.first_norm-next.ensures; left = λ o. absurd (false≢true o) }
+
+pub returns : goal.returns
+returns c = let e = c.longest-best.ensures in record { on = on _ _ _ _ _ _ _ e.0 e.1.norm _ c.is_ended.ensures c.if-is_ended.false _ c.make_reflector.ensures _ c.norm2-vv.ensures c.if-vv.false; next = next-is _ _ _ _ _ _ _ e.0 e.1.norm _ c.first_norm-next.ensures; left = λ o. left _ _ _ _ _ _ _ e.0 e.1.norm _ c.is_ended.ensures c.if-is_ended.false _ c.make_reflector.ensures _ c.norm2-vv.ensures _ c.reflect_rows.ensures }

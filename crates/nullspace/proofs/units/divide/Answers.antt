@@ -1,0 +1,18 @@
+use Rattle.loops.proofs.Writes.{into_next, into-whole}
+use Prim.Native.Nat.{◌≤◌, ◌-◌}
+use mathlib.Core.List.{◌++◌, map}
+use mathlib.Core.Path.{◌≡◌, refl}
+use lib.ListN.{length, take, drop}
+use lib.Ieee.{nan}
+use borrow.Author.Rules.{rules}
+use Rattle.floats.specs.Ops.{◌⊘◌}
+use Rattle.nullspace.proofs.units.divide.Goals as goal
+
+pub loop-i-init : goal.loop-i-init
+loop-i-init c = (refl, search rules, refl, refl)
+
+pub loop-i-preserved : goal.loop-i-preserved
+loop-i-preserved c = (search rules, search rules, search rules, into_next (λ v. v ⊘ c.args.len) nan c.args.row.now c.args.to.now c.loop-i.to c.loop-i.i _ (search rules) (search rules) refl c.loop-i.invariant.3)
+
+pub returns : goal.returns
+returns c = into-whole (λ v. v ⊘ c.args.len) c.args.row.now c.args.to.now c.loop-i.to c.loop-i.i (search rules) (search rules) (search rules) c.loop-i.invariant.3
