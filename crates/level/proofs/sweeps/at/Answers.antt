@@ -1,0 +1,16 @@
+-- Past half the slice there is the default, a NaN. Assumes nothing.
+use Prim.Native.Nat.{ℕ, ◌+◌, ◌*◌, ◌≤◌}
+use mathlib.Core.List.{List}
+use mathlib.Core.Path.{◌≡◌, sym}
+use native.Mathlib.Omega.{arith}
+use borrow.Author.Rules.{rules}
+use lib.Ieee.{Float, nan, div, of_bits}
+use lib.ListN.{length, get_or, get_or-eq_default}
+use Rattle.level.proofs.sweeps.at.Goals as goal
+
+past : (s : List Float) (p axis : ℕ) → length s ≤ p → nan ≡ get_or s (2 * p + axis) nan
+past s p axis h = sym (get_or-eq_default s nan (omega arith))
+
+pub returns-else-p-points : goal.returns-else-p-points
+unfolding div of_bits
+returns-else-p-points c = past c.args.points.now c.args.p c.args.axis c.if-p-points.false

@@ -1,0 +1,11 @@
+-- Assumes nothing.
+use mathlib.Core.Path.{ap, ◌∙◌}
+use borrow.Author.Rules.{rules}
+use Rattle.normal.specs.Normal.{damped_of}
+use Rattle.normal.proofs.Mirrors.{any-start}
+use Rattle.normal.proofs.diagonal.whole_damped.Goals as goal
+
+pub returns : goal.returns
+returns c =
+    c.add_on_diagonal.ensures
+    ∙ ap (damped_of c.args.rows c.args.mu c.args.m) (c.spread.ensures ∙ any-start c.args.rows c.args.h.now c.args.w.now c.requires.2)

@@ -1,0 +1,13 @@
+use Prim.Native.Nat.{◌-◌, ◌≤◌}
+use mathlib.Core.Path.{◌≡◌, refl}
+use borrow.Author.Rules.{rules}
+use lib.ListN.{length}
+use Rattle.loops.proofs.Cells.{cells}
+use Rattle.loops.specs.Turns.{up_to}
+use Rattle.loops.proofs.Turning.{up_to-next, up_to-done}
+use Rattle.normal.specs.Normal.{move_one, moved_of}
+use Rattle.normal.proofs.step.move_all.Given as goal
+
+abbrev pub invariant-loop-c : goal.invariant-loop-c
+invariant-loop-c l =
+    (l.c ≤ l.nf) × (length l.x ≡ length l.initial.x) × (up_to l.nf l.c (move_one l.rows l.nf l.j l.y l.free) l.x ≡ moved_of l.rows l.nf l.j l.y l.free l.initial.x)

@@ -1,0 +1,8 @@
+-- Assumes nothing.
+use Rattle.phrases.specs.Fields.{value_at}
+use borrow.Author.Rules.{rules}
+use Rattle.phrases.proofs.fields.value.Goals as goal
+
+pub returns : goal.returns
+unfolding value_at
+returns c = rw (c.float.ensures, c.eat.ensures)

@@ -1,7 +1,0 @@
--- Assumes nothing.
-use borrow.Author.Tests.{eq-eqb, ne_eqb}
-use Rattle.phrases.proofs.made.contact_of.Statement.{statement}
-use Rattle.phrases.proofs.made.contact_of.Tie as tie
-
-pub contact-of-spec : {M : Type 1} → statement M
-contact-of-spec = tie.close (tie.spec (λ c. rw (eq-eqb _ _ c.if1.true)) (λ c. rw (ne_eqb _ _ c.if1.false)))
