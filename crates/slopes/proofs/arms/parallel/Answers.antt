@@ -1,0 +1,31 @@
+-- What the calls promise, from the last to the first. Assumes nothing.
+use borrow.Author.Rules.{rules}
+use Rattle.loops.specs.Turns.{fold}
+use Rattle.rows.specs.Kinds.{parallel_of}
+use Rattle.slopes.specs.Arms.{rows_from}
+use Rattle.slopes.specs.Dense.{row_into}
+use Rattle.slopes.proofs.Held.{within}
+use Rattle.slopes.proofs.arms.parallel.Goals as goal
+
+pub dir-di-requires : goal.dir-di-requires
+dir-di-requires c = tt
+
+pub dir-dj-requires : goal.dir-dj-requires
+dir-dj-requires c = tt
+
+pub clear_row-requires : goal.clear_row-requires
+clear_row-requires c = within c.requires
+
+pub turned_down-requires : goal.turned_down-requires
+turned_down-requires c = tt
+
+pub turned_up-requires : goal.turned_up-requires
+turned_up-requires c = tt
+
+pub through2-requires : goal.through2-requires
+through2-requires c = within c.requires
+
+pub returns : goal.returns
+unfolding parallel_of rows_from row_into fold
+returns c =
+    rw (c.through2.ensures, c.turned_up.ensures, c.turned_down.ensures, c.clear_row.ensures, c.dir-dj.ensures, c.dir-di.ensures)
