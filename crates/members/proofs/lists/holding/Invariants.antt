@@ -1,0 +1,10 @@
+use Prim.Native.Nat.{◌-◌, ◌≤◌}
+use borrow.Author.Rules.{rules}
+use lib.ListN.{drop}
+use Rattle.groups.specs.Chains.{places_from}
+use Rattle.members.proofs.Heads.{Pushed, pushed_start, pushed-count}
+use Rattle.members.proofs.Pushes.{holding-next, holding-done}
+use Rattle.members.proofs.lists.holding.Given as goal
+
+abbrev pub invariant-loop-i : goal.invariant-loop-i
+invariant-loop-i l = (l.i ≤ 40) × (l.r.count ≤ l.i) × (Pushed l.r (places_from l.i (drop l.i l.of) l.g) (places_from 0 l.of l.g))

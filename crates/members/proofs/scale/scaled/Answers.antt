@@ -1,0 +1,6 @@
+-- Assumes nothing.
+use borrow.Author.Rules.{rules}
+use Rattle.members.proofs.scale.scaled.Goals as goal
+
+pub returns : goal.returns
+returns c = rw (c.in_units.ensures, c.stands.ensures)
