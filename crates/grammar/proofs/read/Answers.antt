@@ -1,0 +1,7 @@
+-- Assumes nothing.
+use borrow.Author.Rules.{rules}
+use Rattle.grammar.proofs.Theorem.{reads-form}
+use Rattle.grammar.proofs.read.Goals as goal
+
+pub returns : goal.returns
+returns c = rw c.read.ensures (reads-form _)
