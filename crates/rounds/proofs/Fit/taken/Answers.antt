@@ -1,0 +1,6 @@
+use borrow.Author.Rules.{rules}
+use Rattle.rounds.proofs.Fit.taken.Goals as goal
+
+pub returns : goal.returns
+returns c =
+    rw c.max.ensures

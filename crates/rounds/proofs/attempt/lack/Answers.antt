@@ -1,0 +1,6 @@
+-- Assumes nothing.
+use borrow.Author.Rules.{rules}
+use Rattle.rounds.proofs.attempt.lack.Goals as goal
+
+pub returns-in-NoPivot : goal.returns-in-NoPivot
+returns-in-NoPivot c = cc

@@ -1,0 +1,31 @@
+use Prim.Native.Nat.{◌-◌, ◌*◌, ◌≤◌}
+use mathlib.Core.List.{List, ◌++◌}
+use mathlib.Core.Path.{◌≡◌, refl, sym, ◌∙◌}
+use native.Mathlib.Omega.{arith}
+use lib.Dec.{eqb}
+use lib.Ieee.{Float}
+use lib.ListN.{length, drop}
+use lib.Seq.{length_front}
+use borrow.Author.Rules.{rules}
+use Rattle.loops.proofs.Parts.{front}
+use Rattle.rounds.specs.Problem.{row_count, values_at, jacobian_at, problem_of, state_of, tried_of}
+use Rattle.rounds.specs.Solve.{Problem, State, round_of, rounds_of}
+use Rattle.rounds.proofs.Around.{jacobian-found, round_is, round-counted, round-tried, round-owned, step_counts, rounds-stop, rounds-next, rounds-done}
+use Rattle.rounds.proofs.Turn.{reshaped, matched}
+use Rattle.rounds.proofs.round.all_rounds.Given as goal
+
+abbrev pub invariant-loop : goal.invariant-loop
+invariant-loop l =
+    (l.counter ≤ 200)
+    × (l.f.iterations ≤ l.counter)
+    × (l.f.tries ≤ 12 * l.counter)
+    × (l.r ≡ values_at l.equations l.lines l.places l.chosen l.x)
+    × (rounds_of (problem_of l.equations l.lines l.places l.chosen l.free (row_count l.equations l.chosen)) (jacobian_at l.equations l.lines l.places l.chosen l.columns (length l.free)) (200 - l.counter) (state_of l.x l.r l.f)
+    ≡ rounds_of (problem_of l.equations l.lines l.places l.chosen l.free (row_count l.equations l.chosen)) (jacobian_at l.equations l.lines l.places l.chosen l.columns (length l.free)) 200 (state_of l.initial.x l.initial.r l.initial.f))
+    × (length l.x ≡ length l.initial.x)
+    × (length l.r ≡ length l.initial.r)
+    × (length l.j ≡ length l.initial.j)
+    × (length l.h ≡ length l.initial.h)
+    × (length l.w ≡ length l.initial.w)
+    × (length l.xn ≡ 80)
+    × (length l.rn ≡ 80)
