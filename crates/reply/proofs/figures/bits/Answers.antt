@@ -5,8 +5,7 @@ use mathlib.Core.Path.{◌≡◌, sym, subst}
 use lib.Dec.{T}
 use lib.Ieee.{Float, nan, inf, fin, is_nan, ne, to_bits}
 use lib.Ieee.Compare.{differs_from_itself}
-use Rattle.reply.proofs.figures.bits.Statement.{statement}
-use Rattle.reply.proofs.figures.bits.Tie as tie
+use Rattle.reply.proofs.figures.bits.Goals as goal
 
 no_nan : (x : Float) → ne x x ≡ false → T (not (is_nan x))
 unfolding is_nan ne
@@ -14,9 +13,9 @@ no_nan nan h = subst T h tt
 no_nan (inf s) h = tt
 no_nan (fin s m e) h = tt
 
-returns : tie.Need-returns
-unfolding to_bits
-returns c = rw (differs_from_itself _ (subst T (sym c.if1.true) tt))
+pub float_to_bits-result : goal.float_to_bits-result
+float_to_bits-result c = no_nan _ c.if-x.false
 
-pub bits-spec : {M : Type 1} → statement M
-bits-spec = tie.close (tie.spec (λ c. no_nan _ c.if1.false) returns (λ c. search rules))
+pub returns-then-x : goal.returns-then-x
+unfolding to_bits
+returns-then-x c = rw (differs_from_itself _ (subst T (sym c.if-x.true) tt))

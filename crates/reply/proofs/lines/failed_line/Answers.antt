@@ -1,0 +1,12 @@
+-- Assumes nothing.
+use borrow.Author.Rules.{rules}
+use Rattle.reply.specs.Lines.{failed_line}
+use Rattle.reply.proofs.Laws.{then}
+use Rattle.reply.proofs.lines.failed_line.Goals as goal
+
+pub returns : goal.returns
+unfolding failed_line
+returns c =
+    let two = then _ _ _ _ _ (then _ _ _ _ _ c.word-at.ensures c.put_whole-at.ensures) c.put_whole-at-2.ensures in
+    let four = then _ _ _ _ _ (then _ _ _ _ _ two c.put_whole-at-3.ensures) c.put_whole-at-4.ensures in
+    then _ _ _ _ _ four c.put_whole.ensures

@@ -1,0 +1,20 @@
+-- The lines so far are laid. Assumes nothing.
+use Prim.Native.Nat.{◌≤◌, ◌+◌, ◌*◌, ◌-◌}
+use mathlib.Core.Path.{◌≡◌, refl}
+use borrow.Author.Rules.{rules}
+use lib.ListN.{length}
+use Rattle.reply.specs.Laid.{laid, laying}
+use Rattle.reply.specs.Lines.{measure_line}
+use Rattle.reply.specs.Reply.{rising}
+use Rattle.reply.proofs.Laws.{rising-start, rising-next, rising-done}
+use Rattle.reply.proofs.parts.measure_lines.Goals as goal
+
+pub loop-j-init : goal.loop-j-init
+loop-j-init c = (search rules, refl, rising-start _ _)
+
+pub loop-j-preserved : goal.loop-j-preserved
+loop-j-preserved c =
+    (search rules, search rules, rising-next _ _ _ _ _ c.loop-j.invariant.2 c.measure_line-next.ensures)
+
+pub returns : goal.returns
+returns c = rising-done _ _ _ _ _ c.loop-j.invariant.0 (search rules) c.loop-j.invariant.2
