@@ -45,6 +45,6 @@ module _ (b : Build) (fitted pts y out out₁ z : List Float) (n : ℕ) (twice :
       (copied (gauged_of b y) (drop n out) b.measure_count (gauged-length b y few places) (rw length-drop (omega arith))
       ∙ rw (drop-drop b.measure_count n out))
 
-  pub handed_out : take n out₁ ++ (z ++ drop (length out₁ - n) (drop n out₁)) ≡ handed_out b fitted out
+  pub handed-out : take n out₁ ++ (z ++ drop (length out₁ - n) (drop n out₁)) ≡ handed_out b fitted out
   unfolding handed_out
-  handed_out = past-tail out₁ z n ∙ rw (laid, take_at y (drop n out) n long, measures-are, ← twice, ← levelled-are)
+  handed-out = past-tail out₁ z n ∙ rw (laid, take_at y (drop n out) n long, measures-are, ← twice, ← levelled-are)

@@ -1,0 +1,6 @@
+-- Assumes nothing.
+use borrow.Author.Rules.{rules}
+use Rattle.job.proofs.fitting.failing.Goals as goal
+
+pub returns : goal.returns
+returns c = rw (c.lowest.ensures, c.code.ensures, c.named_column.ensures)

@@ -1,0 +1,6 @@
+-- Assumes nothing.
+use borrow.Author.Rules.{rules}
+use Rattle.job.proofs.freedoms.counted.Goals as goal
+
+pub returns-then-wanted : goal.returns-then-wanted
+returns-then-wanted c = rw c.if-wanted.true

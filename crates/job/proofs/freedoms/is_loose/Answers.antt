@@ -1,0 +1,6 @@
+-- Assumes nothing.
+use borrow.Author.Rules.{rules}
+use Rattle.job.proofs.freedoms.is_loose.Goals as goal
+
+pub returns : goal.returns
+returns c = rw c.fixed.ensures

@@ -1,0 +1,6 @@
+-- Assumes nothing.
+use borrow.Author.Rules.{rules}
+use Rattle.job.proofs.points.put_point.Goals as goal
+
+pub returns : goal.returns
+returns c = rw (c.put-2.ensures, c.put.ensures)

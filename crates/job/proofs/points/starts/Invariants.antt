@@ -1,0 +1,13 @@
+use Rattle.job.proofs.Laying.{drawn-turn}
+use Prim.Native.Nat.{◌-◌, ◌≤◌}
+use mathlib.Core.Path.{◌≡◌, refl}
+use borrow.Author.Rules.{rules}
+use lib.ListN.{length}
+use Rattle.loops.specs.Turns.{up_to}
+use Rattle.loops.proofs.Turning.{up_to-done}
+use Rattle.job.specs.Points.{drawn_at, drawn}
+use Rattle.job.proofs.points.starts.Given as goal
+
+abbrev pub invariant-loop-p : goal.invariant-loop-p
+invariant-loop-p l =
+    (l.p ≤ 40) × (length l.out ≡ 80) × (up_to 40 l.p (drawn_at l.points) l.out ≡ drawn l.points)
