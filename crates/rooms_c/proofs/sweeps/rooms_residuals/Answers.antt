@@ -1,0 +1,19 @@
+use Prim.Native.Nat.{◌≤◌, ◌-◌}
+use mathlib.Core.Path.{◌≡◌, refl}
+use borrow.Author.Rules.{rules}
+use lib.ListN.{length}
+use Rattle.loops.specs.Turns.{up_to}
+use Rattle.loops.proofs.Turning.{up_to-next, up_to-done}
+use Rattle.rows.specs.Column.{laid}
+use Rattle.rooms_c.specs.Sweeps.{column_again}
+use Rattle.rooms_c.proofs.sweeps.rooms_residuals.Goals as goal
+
+pub loop-init : goal.loop-init
+loop-init c = (search rules, refl, refl)
+
+pub loop-preserved : goal.loop-preserved
+unfolding column_again
+loop-preserved c = (search rules, search rules, search (up_to-next, rules))
+
+pub returns : goal.returns
+returns c = rw (← c.read-reading.ensures) (up_to-done _ _ _ _ _ (search rules) c.loop.invariant.2)
