@@ -7,12 +7,13 @@ mod input;
 mod output;
 
 use input::Input;
+use std::io;
 
-fn main() {
+fn main(rt: HostRuntime) -> io::Result<()> {
     // One byte more than a text may have, so that a longer one is known to be too long.
     let mut text = [0u8; 16385];
-    match input::read(&mut text) {
-        Input::Ended(n) => output::answer(&text[..n]),
-        Input::Failed => os::fail(b"fitter: standard input"),
+    match input::read(rt, &mut text) {
+        Input::Ended(n) => output::answer(rt, &text[..n]),
+        Input::Failed(e) => eprintln!(rt; "fitter: standard input: {e}"),
     }
 }

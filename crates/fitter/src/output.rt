@@ -1,9 +1,10 @@
 // The reply on standard output.
-ghost use Rattle.io.specs.Counts.{IsPrefixLen};
+ghost use Rattle.std.specs.Counts.{IsPrefixLen};
 ghost use Rattle.fitter.specs.Answered.{answered};
 ghost use Rattle.std.specs.Prelude.{◌≡◌, take};
 
-use libc::STDOUT_FILENO;
+use std::io;
+use std::io::Write;
 
 // Lays the reply to a text at the head of `reply`, and answers its length.
 fn lay(text: &[u8], reply: &mut [u8; 8192]) -> usize
@@ -17,11 +18,12 @@ fn lay(text: &[u8], reply: &mut [u8; 8192]) -> usize
 }
 
 // Writes the reply to a text. Nothing is promised of what the system takes, so a write that fails is only said.
-pub(crate) fn answer(text: &[u8]) {
+pub(crate) fn answer(rt: HostRuntime, text: &[u8]) -> io::Result<()> {
     // No reply is longer.
     let mut reply = [0u8; 8192];
     let n = lay(text, &mut reply);
-    if !io::write_all(STDOUT_FILENO, &reply[..n]) {
-        os::fail(b"fitter: standard output");
+    match rt.stdout().write_all(&reply[..n]) {
+        Ok(()) => Ok(()),
+        Err(e) => eprintln!(rt; "fitter: standard output: {e}"),
     }
 }

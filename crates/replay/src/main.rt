@@ -3,27 +3,50 @@
 
 #![tactic(auto)]
 
+ghost use Rattle.std.specs.Io.{ReadsAtMost};
+
 mod judge;
 mod records;
 mod say;
 mod tally;
 
 use say::{cannot, outcome};
+use std::fs::File;
+use std::io;
+use std::io::Read;
 
-fn main() {
+// Reads until `pack` is full or the file ends, and answers how many bytes there are.
+fn fill(file: &mut File, pack: &mut [u8]) -> io::Result<usize>
+    ensures { ReadsAtMost result pack.new }
+{
+    let mut done = 0;
+    while done < pack.len() {
+        let n = file.read(&mut pack[done..])?;
+        if n == 0 {
+            break;
+        }
+        done += n;
+    }
+    Ok(done)
+}
+
+// Counts the records of jobs.pack in the room that is lent for it. A pack that fills it may have more than was read.
+fn replay(rt: HostRuntime, pack: &mut [u8; 524288]) -> io::Result<()> {
+    match File::open(&rt, "jobs.pack") {
+        Ok(file) => {
+            let mut file = file;
+            let n = fill(&mut file, pack)?;
+            if n == 524288 {
+                return cannot(rt, "is longer than the room for it");
+            }
+            let t = tally::count(rt, &pack[..n]);
+            outcome(rt, t, n)
+        }
+        Err(_e) => cannot(rt, "cannot be opened"),
+    }
+}
+
+fn main(rt: HostRuntime) -> io::Result<()> {
     let mut pack = [0u8; 524288];
-    let fd = os::open_read(b"jobs.pack");
-    if fd < 0 {
-        cannot(b"cannot be opened\n");
-        return;
-    }
-    let n = io::read_full(fd, &mut pack);
-    libc::close(fd);
-    // Then there may be more of it than was read.
-    if n == 524288 {
-        cannot(b"is longer than the room for it\n");
-        return;
-    }
-    let t = tally::count(&pack[..n]);
-    outcome(t, n);
+    replay(rt, &mut pack)
 }

@@ -1,35 +1,23 @@
 // What the program says on standard output.
 use crate::tally::Tally;
-use libc::STDOUT_FILENO;
+use std::io;
 
-fn bytes(w: &[u8]) {
-    io::write_all(STDOUT_FILENO, w);
+pub(crate) fn cannot(rt: HostRuntime, why: &str) -> io::Result<()> {
+    println!(rt; "jobs.pack {why}")
 }
 
-fn number(n: usize) {
-    io::print_decimal(STDOUT_FILENO, n as u64);
-}
-
-pub(crate) fn cannot(why: &[u8]) {
-    bytes(b"jobs.pack ");
-    bytes(why);
-}
-
-pub(crate) fn differs(i: usize) {
-    bytes(b"job ");
-    number(i);
-    bytes(b" differs\n");
+// Where it can't be said, the count still tells that a job differs.
+pub(crate) fn differs(rt: HostRuntime, i: usize) {
+    let _said = println!(rt; "job {i} differs").is_ok();
 }
 
 // The counts, and where the records end before the pack does, those words too: such a pack never reads as one that is the same.
-pub(crate) fn outcome(t: Tally, len: usize) {
-    number(t.same);
-    bytes(b" same, ");
-    number(t.differ);
-    bytes(b" differ");
-    if t.at < len {
-        bytes(b", and no whole record at byte ");
-        number(t.at);
+pub(crate) fn outcome(rt: HostRuntime, t: Tally, len: usize) -> io::Result<()> {
+    let same = t.same;
+    let differ = t.differ;
+    let at = t.at;
+    if at < len {
+        return println!(rt; "{same} same, {differ} differ, and no whole record at byte {at}");
     }
-    bytes(b"\n");
+    println!(rt; "{same} same, {differ} differ")
 }

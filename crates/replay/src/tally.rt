@@ -41,14 +41,14 @@ fn counted(t: Tally, end: usize, same: bool) -> Tally
 }
 
 // Of the records that differ the first ten are told.
-fn tell(i: usize, told: usize, same: bool) {
+fn tell(rt: HostRuntime, i: usize, told: usize, same: bool) {
     if !same & (told < 10) {
-        differs(i);
+        differs(rt, i);
     }
 }
 
 // Record i is judged.
-fn judged(s: &[u8], i: usize, r: Record, t: Tally) -> Tally
+fn judged(rt: HostRuntime, s: &[u8], i: usize, r: Record, t: Tally) -> Tally
     requires { Within r (length s.now) }
     ensures { result ≡ judged_of s.now r t }
 {
@@ -56,20 +56,20 @@ fn judged(s: &[u8], i: usize, r: Record, t: Tally) -> Tally
     let reply = r.reply;
     let end = r.end;
     let same = is_reply(&s[text..reply], &s[reply..end]);
-    tell(i, t.differ, same);
+    tell(rt, i, t.differ, same);
     counted(t, end, same)
 }
 
 // One record more. Where there is none the tally stays as it is, so that its place is before the pack's end.
-fn turn(s: &[u8], i: usize, t: Tally) -> Tally
+fn turn(rt: HostRuntime, s: &[u8], i: usize, t: Tally) -> Tally
     ensures { result ≡ turn_of s.now i t }
 {
     let r = record_at(s, t.at);
-    if r.found { judged(s, i, r, t) } else { t }
+    if r.found { judged(rt, s, i, r, t) } else { t }
 }
 
 // There are no more records than bytes; past the last one a turn finds nothing.
-pub(crate) fn count(s: &[u8]) -> Tally
+pub(crate) fn count(rt: HostRuntime, s: &[u8]) -> Tally
     ensures { result ≡ tally_of s.now }
 {
     let mut t = Tally {
@@ -78,7 +78,7 @@ pub(crate) fn count(s: &[u8]) -> Tally
         differ: 0,
     };
     for i in 0..s.len() {
-        t = turn(s, i, t);
+        t = turn(rt, s, i, t);
     }
     t
 }

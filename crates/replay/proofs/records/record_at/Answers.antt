@@ -1,0 +1,7 @@
+use Rattle.replay.specs.Records.{record_at}
+use borrow.Author.Rules.{rules}
+use Rattle.replay.proofs.records.record_at.Goals as goal
+
+pub returns : goal.returns
+unfolding record_at
+returns c = cc
