@@ -1,3 +1,4 @@
 pub mod Checking
+pub mod Columns
 pub mod Reasons
 pub mod Lesser

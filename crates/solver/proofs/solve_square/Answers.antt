@@ -14,7 +14,7 @@ use Rattle.solver.specs.Promise.{found, Finds}
 use Rattle.solver.specs.Reasons.{some, no_pivot, not_finite, on_some, if_finite, reasoned_of}
 use Rattle.solver.specs.Steps.{sys, back_of}
 use Rattle.solver.proofs.Lesser.{same-elimination}
-use Rattle.solver.proofs.Reasons.{columns-some, columns-none}
+use Rattle.solver.proofs.Columns.{columns-some, columns-none}
 use borrow.Author.Rules.{rules}
 use Rattle.solver.proofs.solve_square.Goals as goal
 

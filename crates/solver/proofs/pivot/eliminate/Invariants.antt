@@ -6,7 +6,7 @@ use borrow.Author.Rules.{rules}
 use borrow.Author.Tests.{not-true, not-false}
 use Rattle.solver.specs.Lesser.{lesser_column, lesser_eliminated}
 use Rattle.solver.specs.Reasons.{columns_from}
-use Rattle.solver.proofs.Reasons.{columns-next, columns-stop, columns-done}
+use Rattle.solver.proofs.Columns.{columns-next, columns-stop, columns-done}
 use Rattle.solver.specs.Steps.{sys}
 use Rattle.solver.proofs.pivot.eliminate.Given as goal
 
