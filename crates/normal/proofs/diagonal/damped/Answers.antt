@@ -16,17 +16,28 @@ pub returns-then-rows-gt80 : goal.returns-then-rows-gt80
 returns-then-rows-gt80 c = over _ _ _ _ (lt-ltb _ _ c.if-rows-gt80.true)
 
 pub overflow_mul-nn : goal.overflow_mul-nn
-overflow_mul-nn c = lies-fits _ _ _ c.holds.ensures ((let has_room-is : c.holds.result ≡ true = and_right (leb c.triangle.result (length c.args.h.now)) c.holds.result c.if-triangle-h.true in has_room-is)) (search rules)
+overflow_mul-nn c =
+    let has_room : c.holds.result ≡ true = and_right (leb c.triangle.result (length c.args.h.now)) c.holds.result c.if-triangle-h.true in
+    lies-fits _ _ _ c.holds.ensures has_room (search rules)
 
 pub slice_bounds-whole_damped-end : goal.slice_bounds-whole_damped-end
-slice_bounds-whole_damped-end c = (let room-is : c.args.rows * c.args.rows ≤ length c.args.w.now = lies _ _ _ c.holds.ensures ((let has_room-is : c.holds.result ≡ true = and_right (leb c.triangle.result (length c.args.h.now)) c.holds.result c.if-triangle-h.true in has_room-is)) in room-is)
+slice_bounds-whole_damped-end c =
+    let has_room : c.holds.result ≡ true = and_right (leb c.triangle.result (length c.args.h.now)) c.holds.result c.if-triangle-h.true in
+    let room : c.args.rows * c.args.rows ≤ length c.args.w.now = lies _ _ _ c.holds.ensures has_room in
+    room
 
 pub slice_bounds-whole_damped-end-then-triangle-h : goal.slice_bounds-whole_damped-end-then-triangle-h
-slice_bounds-whole_damped-end-then-triangle-h c = front _ _ ((let room-is : c.args.rows * c.args.rows ≤ length c.args.w.now = lies _ _ _ c.holds.ensures ((let has_room-is : c.holds.result ≡ true = and_right (leb c.triangle.result (length c.args.h.now)) c.holds.result c.if-triangle-h.true in has_room-is)) in room-is))
+slice_bounds-whole_damped-end-then-triangle-h c =
+    let has_room : c.holds.result ≡ true = and_right (leb c.triangle.result (length c.args.h.now)) c.holds.result c.if-triangle-h.true in
+    let room : c.args.rows * c.args.rows ≤ length c.args.w.now = lies _ _ _ c.holds.ensures has_room in
+    front _ _ room
 
 pub whole_damped-requires : goal.whole_damped-requires
 whole_damped-requires c =
-    (c.if-rows-gt80.false, (let half_room-is : triangle c.args.rows ≤ length c.args.h.now = rw (← c.triangle.ensures) (leb-true _ _ (and_left (leb c.triangle.result (length c.args.h.now)) c.holds.result c.if-triangle-h.true)) in half_room-is), sym (front _ _ ((let room-is : c.args.rows * c.args.rows ≤ length c.args.w.now = lies _ _ _ c.holds.ensures ((let has_room-is : c.holds.result ≡ true = and_right (leb c.triangle.result (length c.args.h.now)) c.holds.result c.if-triangle-h.true in has_room-is)) in room-is))))
+    let has_room : c.holds.result ≡ true = and_right (leb c.triangle.result (length c.args.h.now)) c.holds.result c.if-triangle-h.true in
+    let room : c.args.rows * c.args.rows ≤ length c.args.w.now = lies _ _ _ c.holds.ensures has_room in
+    let half_room : triangle c.args.rows ≤ length c.args.h.now = rw (← c.triangle.ensures) (leb-true _ _ (and_left (leb c.triangle.result (length c.args.h.now)) c.holds.result c.if-triangle-h.true)) in
+    (c.if-rows-gt80.false, half_room, sym (front _ _ room))
 
 pub returns-then-triangle-h : goal.returns-then-triangle-h
 returns-then-triangle-h c =

@@ -18,57 +18,92 @@ use Rattle.rounds.proofs.opening.solve.Goals as goal
 
 pub returns-then-x-gt80 : goal.returns-then-x-gt80
 returns-then-x-gt80 c =
+    let narrow : length (indices_of c.args.p.free) ≤ 80 = let n : length c.args.p.free.items ≡ 80 = c.well_formed.0.1.1.1.1.1.1.1.0.1.1.0.1.0.1 in
+    rw length-take (omega (arith, n)) in
+    let few : length (numbers_of c.args.p.chosen.0) ≤ 40 = let n : length c.args.p.chosen.0.items ≡ 40 = c.well_formed.0.1.1.1.1.0.1.1.0.1.1.0.1.0.1 in
+    rw length-take (omega (arith, n)) in
     refused-many c.args.p.equations c.args.p.lines c.args.p.places c.args.p.columns (numbers_of c.args.p.chosen.0) (indices_of c.args.p.free) c.args.x.now c.args.a.now c.args.b.now c.args.c.now c.refused.result
-    (any-many c.args.p.equations c.args.p.lines c.args.p.places c.args.p.columns (numbers_of c.args.p.chosen.0) (indices_of c.args.p.free) c.args.x.now c.args.a.now c.args.b.now c.args.c.now ((let few-is : length (numbers_of c.args.p.chosen.0) ≤ 40 = let n : length c.args.p.chosen.0.items ≡ 40 = c.well_formed.0.1.1.1.1.0.1.1.0.1.1.0.1.0.1 in
-    rw length-take (omega (arith, n)) in few-is)) ((let narrow-is : length (indices_of c.args.p.free) ≤ 80 = let n : length c.args.p.free.items ≡ 80 = c.well_formed.0.1.1.1.1.1.1.1.0.1.1.0.1.0.1 in
-    rw length-take (omega (arith, n)) in narrow-is)) c.if-x-gt80.true) c.refused.ensures
+    (any-many c.args.p.equations c.args.p.lines c.args.p.places c.args.p.columns (numbers_of c.args.p.chosen.0) (indices_of c.args.p.free) c.args.x.now c.args.a.now c.args.b.now c.args.c.now few narrow c.if-x-gt80.true) c.refused.ensures
 
 pub returns-then-a-b : goal.returns-then-a-b
 returns-then-a-b c =
-    refused-short c.args.p.equations c.args.p.lines c.args.p.places c.args.p.columns (numbers_of c.args.p.chosen.0) (indices_of c.args.p.free) c.args.x.now c.args.a.now c.args.b.now c.args.c.now ((let none-is : too_many c.args.p.equations c.args.p.lines c.args.p.places c.args.p.columns (numbers_of c.args.p.chosen.0) (indices_of c.args.p.free) c.args.x.now c.args.a.now c.args.b.now c.args.c.now ≡ false = none-many c.args.p.equations c.args.p.lines c.args.p.places c.args.p.columns (numbers_of c.args.p.chosen.0) (indices_of c.args.p.free) c.args.x.now c.args.a.now c.args.b.now c.args.c.now
-    ((let few-is : length (numbers_of c.args.p.chosen.0) ≤ 40 = let n : length c.args.p.chosen.0.items ≡ 40 = c.well_formed.0.1.1.1.1.0.1.1.0.1.1.0.1.0.1 in
-    rw length-take (omega (arith, n)) in few-is)) ((let narrow-is : length (indices_of c.args.p.free) ≤ 80 = let n : length c.args.p.free.items ≡ 80 = c.well_formed.0.1.1.1.1.1.1.1.0.1.1.0.1.0.1 in
-    rw length-take (omega (arith, n)) in narrow-is)) ((let short-is : ((length c.args.x.now)) ≤ 80 = c.if-x-gt80.false in short-is)) in none-is)) c.refused-then-a-b.result c.if-a-b.true c.refused-then-a-b.ensures
+    let short : (length c.args.x.now) ≤ 80 = c.if-x-gt80.false in
+    let narrow : length (indices_of c.args.p.free) ≤ 80 = let n : length c.args.p.free.items ≡ 80 = c.well_formed.0.1.1.1.1.1.1.1.0.1.1.0.1.0.1 in
+    rw length-take (omega (arith, n)) in
+    let few : length (numbers_of c.args.p.chosen.0) ≤ 40 = let n : length c.args.p.chosen.0.items ≡ 40 = c.well_formed.0.1.1.1.1.0.1.1.0.1.1.0.1.0.1 in
+    rw length-take (omega (arith, n)) in
+    let none : too_many c.args.p.equations c.args.p.lines c.args.p.places c.args.p.columns (numbers_of c.args.p.chosen.0) (indices_of c.args.p.free) c.args.x.now c.args.a.now c.args.b.now c.args.c.now ≡ false = none-many c.args.p.equations c.args.p.lines c.args.p.places c.args.p.columns (numbers_of c.args.p.chosen.0) (indices_of c.args.p.free) c.args.x.now c.args.a.now c.args.b.now c.args.c.now
+    few narrow short in
+    refused-short c.args.p.equations c.args.p.lines c.args.p.places c.args.p.columns (numbers_of c.args.p.chosen.0) (indices_of c.args.p.free) c.args.x.now c.args.a.now c.args.b.now c.args.c.now none c.refused-then-a-b.result c.if-a-b.true c.refused-then-a-b.ensures
 
 pub slice_bounds-here-end : goal.slice_bounds-here-end
-slice_bounds-here-end c = (let short-is : ((length c.args.x.now)) ≤ 80 = c.if-x-gt80.false in short-is)
+slice_bounds-here-end c =
+    let short : (length c.args.x.now) ≤ 80 = c.if-x-gt80.false in
+    short
 
 pub slice_bounds-copy-end : goal.slice_bounds-copy-end
-slice_bounds-copy-end c = front ((length c.args.x.now)) (replicate 80 zero⁺) ((let short-is : ((length c.args.x.now)) ≤ 80 = c.if-x-gt80.false in short-is))
+slice_bounds-copy-end c =
+    let short : (length c.args.x.now) ≤ 80 = c.if-x-gt80.false in
+    front (length c.args.x.now) (replicate 80 zero⁺) short
 
 pub slice_bounds-here-end-2 : goal.slice_bounds-here-end-2
-slice_bounds-here-end-2 c = (let fits-is : (length c.args.x.now) ≤ length ((c.copy.new.to ++ drop ((length c.args.x.now)) (replicate 80 zero⁺))) = still-fits ((length c.args.x.now)) (replicate 80 zero⁺) c.copy.new.to ((let short-is : ((length c.args.x.now)) ≤ 80 = c.if-x-gt80.false in short-is)) c.copy.auto.to in fits-is)
+slice_bounds-here-end-2 c =
+    let short : (length c.args.x.now) ≤ 80 = c.if-x-gt80.false in
+    let fits : (length c.args.x.now) ≤ length (c.copy.new.to ++ drop (length c.args.x.now) (replicate 80 zero⁺)) = still-fits (length c.args.x.now) (replicate 80 zero⁺) c.copy.new.to short c.copy.auto.to in
+    fits
 
 pub slice_bounds-in_areas-end : goal.slice_bounds-in_areas-end
-slice_bounds-in_areas-end c = front ((length c.args.x.now)) ((c.copy.new.to ++ drop ((length c.args.x.now)) (replicate 80 zero⁺))) ((let fits-is : (length c.args.x.now) ≤ length ((c.copy.new.to ++ drop ((length c.args.x.now)) (replicate 80 zero⁺))) = still-fits ((length c.args.x.now)) (replicate 80 zero⁺) c.copy.new.to ((let short-is : ((length c.args.x.now)) ≤ 80 = c.if-x-gt80.false in short-is)) c.copy.auto.to in fits-is))
+slice_bounds-in_areas-end c =
+    let short : (length c.args.x.now) ≤ 80 = c.if-x-gt80.false in
+    let fits : (length c.args.x.now) ≤ length (c.copy.new.to ++ drop (length c.args.x.now) (replicate 80 zero⁺)) = still-fits (length c.args.x.now) (replicate 80 zero⁺) c.copy.new.to short c.copy.auto.to in
+    front (length c.args.x.now) (c.copy.new.to ++ drop (length c.args.x.now) (replicate 80 zero⁺)) fits
 
 pub in_areas-e-requires : goal.in_areas-e-requires
 in_areas-e-requires c =
+    let short : (length c.args.x.now) ≤ 80 = c.if-x-gt80.false in
+    let fits : (length c.args.x.now) ≤ length (c.copy.new.to ++ drop (length c.args.x.now) (replicate 80 zero⁺)) = still-fits (length c.args.x.now) (replicate 80 zero⁺) c.copy.new.to short c.copy.auto.to in
     let room = none-short (length c.args.a.now) (length c.args.b.now) (length c.args.c.now) c.if-a-b.false in
-    (rw (← front ((length c.args.x.now)) ((c.copy.new.to ++ drop ((length c.args.x.now)) (replicate 80 zero⁺))) ((let fits-is : (length c.args.x.now) ≤ length ((c.copy.new.to ++ drop ((length c.args.x.now)) (replicate 80 zero⁺))) = still-fits ((length c.args.x.now)) (replicate 80 zero⁺) c.copy.new.to ((let short-is : ((length c.args.x.now)) ≤ 80 = c.if-x-gt80.false in short-is)) c.copy.auto.to in fits-is))) ((let short-is : ((length c.args.x.now)) ≤ 80 = c.if-x-gt80.false in short-is)), room.0, room.1, room.2)
+    (rw (← front (length c.args.x.now) (c.copy.new.to ++ drop (length c.args.x.now) (replicate 80 zero⁺)) fits) short, room.0, room.1, room.2)
 
 pub returns-then-not-e : goal.returns-then-not-e
 returns-then-not-e c =
-    done-failed c.args.p.equations c.args.p.lines c.args.p.places c.args.p.columns (numbers_of c.args.p.chosen.0) (indices_of c.args.p.free) c.args.x.now c.args.a.now c.args.b.now c.args.c.now ((let none-is : too_many c.args.p.equations c.args.p.lines c.args.p.places c.args.p.columns (numbers_of c.args.p.chosen.0) (indices_of c.args.p.free) c.args.x.now c.args.a.now c.args.b.now c.args.c.now ≡ false = none-many c.args.p.equations c.args.p.lines c.args.p.places c.args.p.columns (numbers_of c.args.p.chosen.0) (indices_of c.args.p.free) c.args.x.now c.args.a.now c.args.b.now c.args.c.now
-    ((let few-is : length (numbers_of c.args.p.chosen.0) ≤ 40 = let n : length c.args.p.chosen.0.items ≡ 40 = c.well_formed.0.1.1.1.1.0.1.1.0.1.1.0.1.0.1 in
-    rw length-take (omega (arith, n)) in few-is)) ((let narrow-is : length (indices_of c.args.p.free) ≤ 80 = let n : length c.args.p.free.items ≡ 80 = c.well_formed.0.1.1.1.1.1.1.1.0.1.1.0.1.0.1 in
-    rw length-take (omega (arith, n)) in narrow-is)) ((let short-is : ((length c.args.x.now)) ≤ 80 = c.if-x-gt80.false in short-is)) in none-is)) c.if-a-b.false
-    (take ((length c.args.x.now)) ((c.copy.new.to ++ drop ((length c.args.x.now)) (replicate 80 zero⁺)))) ((c.in_areas-e.new.x)) c.in_areas-e.new.a c.in_areas-e.new.b c.in_areas-e.new.c c.in_areas-e.result c.answer.result
-    (copied-front c.args.x.now (replicate 80 zero⁺) c.copy.new.to ((let short-is : ((length c.args.x.now)) ≤ 80 = c.if-x-gt80.false in short-is)) c.copy.ensures) c.in_areas-e.ensures c.answer.ensures (not-true c.in_areas-e.result.converged c.if-not-e.true)
+    let short : (length c.args.x.now) ≤ 80 = c.if-x-gt80.false in
+    let narrow : length (indices_of c.args.p.free) ≤ 80 = let n : length c.args.p.free.items ≡ 80 = c.well_formed.0.1.1.1.1.1.1.1.0.1.1.0.1.0.1 in
+    rw length-take (omega (arith, n)) in
+    let few : length (numbers_of c.args.p.chosen.0) ≤ 40 = let n : length c.args.p.chosen.0.items ≡ 40 = c.well_formed.0.1.1.1.1.0.1.1.0.1.1.0.1.0.1 in
+    rw length-take (omega (arith, n)) in
+    let none : too_many c.args.p.equations c.args.p.lines c.args.p.places c.args.p.columns (numbers_of c.args.p.chosen.0) (indices_of c.args.p.free) c.args.x.now c.args.a.now c.args.b.now c.args.c.now ≡ false = none-many c.args.p.equations c.args.p.lines c.args.p.places c.args.p.columns (numbers_of c.args.p.chosen.0) (indices_of c.args.p.free) c.args.x.now c.args.a.now c.args.b.now c.args.c.now
+    few narrow short in
+    done-failed c.args.p.equations c.args.p.lines c.args.p.places c.args.p.columns (numbers_of c.args.p.chosen.0) (indices_of c.args.p.free) c.args.x.now c.args.a.now c.args.b.now c.args.c.now none c.if-a-b.false
+    (take (length c.args.x.now) (c.copy.new.to ++ drop (length c.args.x.now) (replicate 80 zero⁺))) (c.in_areas-e.new.x) c.in_areas-e.new.a c.in_areas-e.new.b c.in_areas-e.new.c c.in_areas-e.result c.answer.result
+    (copied-front c.args.x.now (replicate 80 zero⁺) c.copy.new.to short c.copy.ensures) c.in_areas-e.ensures c.answer.ensures (not-true c.in_areas-e.result.converged c.if-not-e.true)
 
 pub slice_bounds-here-end-3 : goal.slice_bounds-here-end-3
-slice_bounds-here-end-3 c = (let still-is : (length c.args.x.now) ≤ length ((((c.in_areas-e.new.x)) ++ drop ((length c.args.x.now)) ((c.copy.new.to ++ drop ((length c.args.x.now)) (replicate 80 zero⁺))))) = still-fits ((length c.args.x.now)) ((c.copy.new.to ++ drop ((length c.args.x.now)) (replicate 80 zero⁺))) ((c.in_areas-e.new.x)) ((let fits-is : (length c.args.x.now) ≤ length ((c.copy.new.to ++ drop ((length c.args.x.now)) (replicate 80 zero⁺))) = still-fits ((length c.args.x.now)) (replicate 80 zero⁺) c.copy.new.to ((let short-is : ((length c.args.x.now)) ≤ 80 = c.if-x-gt80.false in short-is)) c.copy.auto.to in fits-is)) c.in_areas-e.auto.x in still-is)
+slice_bounds-here-end-3 c =
+    let short : (length c.args.x.now) ≤ 80 = c.if-x-gt80.false in
+    let fits : (length c.args.x.now) ≤ length (c.copy.new.to ++ drop (length c.args.x.now) (replicate 80 zero⁺)) = still-fits (length c.args.x.now) (replicate 80 zero⁺) c.copy.new.to short c.copy.auto.to in
+    let still : (length c.args.x.now) ≤ length ((c.in_areas-e.new.x) ++ drop (length c.args.x.now) (c.copy.new.to ++ drop (length c.args.x.now) (replicate 80 zero⁺))) = still-fits (length c.args.x.now) (c.copy.new.to ++ drop (length c.args.x.now) (replicate 80 zero⁺)) (c.in_areas-e.new.x) fits c.in_areas-e.auto.x in
+    still
 
 pub slice_bounds-copy-end-2 : goal.slice_bounds-copy-end-2
-slice_bounds-copy-end-2 c = front ((length c.args.x.now)) ((((c.in_areas-e.new.x)) ++ drop ((length c.args.x.now)) ((c.copy.new.to ++ drop ((length c.args.x.now)) (replicate 80 zero⁺))))) ((let still-is : (length c.args.x.now) ≤ length ((((c.in_areas-e.new.x)) ++ drop ((length c.args.x.now)) ((c.copy.new.to ++ drop ((length c.args.x.now)) (replicate 80 zero⁺))))) = still-fits ((length c.args.x.now)) ((c.copy.new.to ++ drop ((length c.args.x.now)) (replicate 80 zero⁺))) ((c.in_areas-e.new.x)) ((let fits-is : (length c.args.x.now) ≤ length ((c.copy.new.to ++ drop ((length c.args.x.now)) (replicate 80 zero⁺))) = still-fits ((length c.args.x.now)) (replicate 80 zero⁺) c.copy.new.to ((let short-is : ((length c.args.x.now)) ≤ 80 = c.if-x-gt80.false in short-is)) c.copy.auto.to in fits-is)) c.in_areas-e.auto.x in still-is))
+slice_bounds-copy-end-2 c =
+    let short : (length c.args.x.now) ≤ 80 = c.if-x-gt80.false in
+    let fits : (length c.args.x.now) ≤ length (c.copy.new.to ++ drop (length c.args.x.now) (replicate 80 zero⁺)) = still-fits (length c.args.x.now) (replicate 80 zero⁺) c.copy.new.to short c.copy.auto.to in
+    let still : (length c.args.x.now) ≤ length ((c.in_areas-e.new.x) ++ drop (length c.args.x.now) (c.copy.new.to ++ drop (length c.args.x.now) (replicate 80 zero⁺))) = still-fits (length c.args.x.now) (c.copy.new.to ++ drop (length c.args.x.now) (replicate 80 zero⁺)) (c.in_areas-e.new.x) fits c.in_areas-e.auto.x in
+    front (length c.args.x.now) ((c.in_areas-e.new.x) ++ drop (length c.args.x.now) (c.copy.new.to ++ drop (length c.args.x.now) (replicate 80 zero⁺))) still
 
 pub returns : goal.returns
 returns c =
-    let long = c.in_areas-e.auto.x ∙ sym (front ((length c.args.x.now)) ((c.copy.new.to ++ drop ((length c.args.x.now)) (replicate 80 zero⁺))) ((let fits-is : (length c.args.x.now) ≤ length ((c.copy.new.to ++ drop ((length c.args.x.now)) (replicate 80 zero⁺))) = still-fits ((length c.args.x.now)) (replicate 80 zero⁺) c.copy.new.to ((let short-is : ((length c.args.x.now)) ≤ 80 = c.if-x-gt80.false in short-is)) c.copy.auto.to in fits-is))) in
-    done-converged c.args.p.equations c.args.p.lines c.args.p.places c.args.p.columns (numbers_of c.args.p.chosen.0) (indices_of c.args.p.free) c.args.x.now c.args.a.now c.args.b.now c.args.c.now ((let none-is : too_many c.args.p.equations c.args.p.lines c.args.p.places c.args.p.columns (numbers_of c.args.p.chosen.0) (indices_of c.args.p.free) c.args.x.now c.args.a.now c.args.b.now c.args.c.now ≡ false = none-many c.args.p.equations c.args.p.lines c.args.p.places c.args.p.columns (numbers_of c.args.p.chosen.0) (indices_of c.args.p.free) c.args.x.now c.args.a.now c.args.b.now c.args.c.now
-    ((let few-is : length (numbers_of c.args.p.chosen.0) ≤ 40 = let n : length c.args.p.chosen.0.items ≡ 40 = c.well_formed.0.1.1.1.1.0.1.1.0.1.1.0.1.0.1 in
-    rw length-take (omega (arith, n)) in few-is)) ((let narrow-is : length (indices_of c.args.p.free) ≤ 80 = let n : length c.args.p.free.items ≡ 80 = c.well_formed.0.1.1.1.1.1.1.1.0.1.1.0.1.0.1 in
-    rw length-take (omega (arith, n)) in narrow-is)) ((let short-is : ((length c.args.x.now)) ≤ 80 = c.if-x-gt80.false in short-is)) in none-is)) c.if-a-b.false
-    (take ((length c.args.x.now)) ((c.copy.new.to ++ drop ((length c.args.x.now)) (replicate 80 zero⁺)))) ((c.in_areas-e.new.x)) c.in_areas-e.new.a c.in_areas-e.new.b c.in_areas-e.new.c c.in_areas-e.result c.answer-2.result
-    (copied-front c.args.x.now (replicate 80 zero⁺) c.copy.new.to ((let short-is : ((length c.args.x.now)) ≤ 80 = c.if-x-gt80.false in short-is)) c.copy.ensures) c.in_areas-e.ensures c.answer-2.ensures c.copy-2.new.to (not-false c.in_areas-e.result.converged c.if-not-e.false)
-    (copied-back ((c.in_areas-e.new.x)) c.args.x.now (drop ((length c.args.x.now)) ((c.copy.new.to ++ drop ((length c.args.x.now)) (replicate 80 zero⁺)))) c.copy-2.new.to long c.copy-2.ensures)
+    let short : (length c.args.x.now) ≤ 80 = c.if-x-gt80.false in
+    let narrow : length (indices_of c.args.p.free) ≤ 80 = let n : length c.args.p.free.items ≡ 80 = c.well_formed.0.1.1.1.1.1.1.1.0.1.1.0.1.0.1 in
+    rw length-take (omega (arith, n)) in
+    let few : length (numbers_of c.args.p.chosen.0) ≤ 40 = let n : length c.args.p.chosen.0.items ≡ 40 = c.well_formed.0.1.1.1.1.0.1.1.0.1.1.0.1.0.1 in
+    rw length-take (omega (arith, n)) in
+    let none : too_many c.args.p.equations c.args.p.lines c.args.p.places c.args.p.columns (numbers_of c.args.p.chosen.0) (indices_of c.args.p.free) c.args.x.now c.args.a.now c.args.b.now c.args.c.now ≡ false = none-many c.args.p.equations c.args.p.lines c.args.p.places c.args.p.columns (numbers_of c.args.p.chosen.0) (indices_of c.args.p.free) c.args.x.now c.args.a.now c.args.b.now c.args.c.now
+    few narrow short in
+    let fits : (length c.args.x.now) ≤ length (c.copy.new.to ++ drop (length c.args.x.now) (replicate 80 zero⁺)) = still-fits (length c.args.x.now) (replicate 80 zero⁺) c.copy.new.to short c.copy.auto.to in
+    let long = c.in_areas-e.auto.x ∙ sym (front (length c.args.x.now) (c.copy.new.to ++ drop (length c.args.x.now) (replicate 80 zero⁺)) fits) in
+    done-converged c.args.p.equations c.args.p.lines c.args.p.places c.args.p.columns (numbers_of c.args.p.chosen.0) (indices_of c.args.p.free) c.args.x.now c.args.a.now c.args.b.now c.args.c.now none c.if-a-b.false
+    (take (length c.args.x.now) (c.copy.new.to ++ drop (length c.args.x.now) (replicate 80 zero⁺))) (c.in_areas-e.new.x) c.in_areas-e.new.a c.in_areas-e.new.b c.in_areas-e.new.c c.in_areas-e.result c.answer-2.result
+    (copied-front c.args.x.now (replicate 80 zero⁺) c.copy.new.to short c.copy.ensures) c.in_areas-e.ensures c.answer-2.ensures c.copy-2.new.to (not-false c.in_areas-e.result.converged c.if-not-e.false)
+    (copied-back (c.in_areas-e.new.x) c.args.x.now (drop (length c.args.x.now) (c.copy.new.to ++ drop (length c.args.x.now) (replicate 80 zero⁺))) c.copy-2.new.to long c.copy-2.ensures)
