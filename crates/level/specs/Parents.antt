@@ -27,7 +27,7 @@ skipped ps x = set ps x (up ps (up ps x))
 unfoldable pub halved : Gives ℕ → Gives ℕ
 halved s = let ps = skipped s.parents s.answer in record { parents = ps; answer = up ps s.answer }
 
--- `find`: 80 turns are enough on whatever parents the sweeps come by (`Walk-Ends`, proofs/Roots.antt), since each goes to a point
+-- `find`: 80 turns are enough on whatever parents the sweeps come by (`walk_ends`, proofs/Roots.antt), since each goes to a point
 -- that would win over the one before
 unfoldable pub find_of : List ℕ → ℕ → Gives ℕ
 find_of ps x = while_to 80 0 below (λ i. halved) (record { parents = ps; answer = x })

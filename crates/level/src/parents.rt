@@ -4,7 +4,7 @@ ghost use Rattle.level.specs.Parents.{up, Leaves, halved, find_of, a_wins, join_
 
 use crate::table::fixed_at;
 
-// Enough turns for every walk (`Walk-Ends`, proofs/Roots.antt): the bound only lets a call end whatever it is lent.
+// Enough turns for every walk (`walk_ends`, proofs/Roots.antt): the bound only lets a call end whatever it is lent.
 const TURNS: usize = 80;
 
 fn up(p: &[usize], x: usize) -> usize

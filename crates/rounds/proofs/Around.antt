@@ -24,7 +24,7 @@ use Rattle.rounds.proofs.Column.{table_is}
 use Rattle.rounds.specs.Inside.{begun_fit, largest_in, polished_fit, step_by, step_of, tries_at, ended_of}
 use Rattle.rounds.proofs.Holding.{round-own}
 use Rattle.rounds.specs.Problem.{row_count, jacobian_at, state_of, tried_of}
-use Rattle.rounds.specs.Solve.{Problem, State, Trial, Tried, Outcome, converged, within, judged, trial_of, try_of, tries_of, or_next, begun, round_of, rounds_of, ended, decided}
+use Rattle.rounds.specs.Solve.{Problem, State, Trial, Tried, Outcome, within, judged, trial_of, try_of, tries_of, or_next, begun, round_of, rounds_of, ended, decided}
 use Rattle.rounds.specs.declared.Attempted.{Attempted}
 use Rattle.rounds.specs.declared.Fit.{Fit}
 use Rattle.rounds.specs.declared.Step.{Step}

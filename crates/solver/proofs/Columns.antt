@@ -1,17 +1,12 @@
 -- The loop over the columns, turn by turn, as the code goes through it: a turn, a stop and the end (specs/Reasons.antt). Assumes nothing.
 use Prim.Native.Nat.{ℕ, zero, suc, ◌+◌, ◌-◌, ◌≤◌, ◌<◌}
-use mathlib.Core.Bool.{Bool, true, false, cond, true≢false}
-use mathlib.Core.List.{List}
-use mathlib.Core.Path.{◌≡◌, refl, sym, ap, ◌∙◌}
-use native.Mathlib.Nat.{add-zero, zero-add}
+use mathlib.Core.Bool.{Bool, true, false}
+use mathlib.Core.Path.{◌≡◌, refl, sym, ◌∙◌}
 use native.Mathlib.Omega.{arith}
-use lib.Ieee.{Float}
-use lib.Ieee.Scale.{finite}
-use Rattle.loops.specs.Turns.{Try, go, stop, after, tried, tries, try_to, every}
-use Rattle.loops.proofs.Turning.{try_to-all}
+use Rattle.loops.specs.Turns.{Try, go, stop, tried}
 use Rattle.solver.specs.Inside.{columns_in}
-use Rattle.solver.specs.Reasons.{Reasoned, some, no_pivot, not_finite, on_some, option_of, or_no_pivot, columns_from, if_finite, reasoned_of, Forgotten, matrix_of, ComesTo, Pivots, Lacks, FirstColumn, NotFiniteExactly, ColumnNamed}
-use Rattle.solver.specs.Steps.{Sys, sys, scale_of, singular, column_of, eliminated_of, back_of, all_finite, solution_of}
+use Rattle.solver.specs.Reasons.{Reasoned, some, no_pivot, columns_from}
+use Rattle.solver.specs.Steps.{Sys}
 
 pub columns-some : (c : ℕ) (s : Sys) → c ≤ 0 → columns_in c s ≡ some s
 columns-some zero s h = refl

@@ -1,5 +1,5 @@
 -- Which column the loop over the columns names (specs/Reasons.antt). Assumes nothing.
-use Prim.Native.Nat.{ℕ, zero, suc, ◌+◌, ◌-◌, ◌≤◌, ◌<◌}
+use Prim.Native.Nat.{ℕ, zero, suc, ◌+◌, ◌<◌}
 use mathlib.Core.Bool.{Bool, true, false, cond, true≢false}
 use mathlib.Core.List.{List}
 use mathlib.Core.Path.{◌≡◌, refl, sym, ap, ◌∙◌}
@@ -7,9 +7,8 @@ use native.Mathlib.Nat.{add-zero, zero-add}
 use native.Mathlib.Omega.{arith}
 use lib.Ieee.{Float}
 use lib.Ieee.Scale.{finite}
-use Rattle.loops.specs.Turns.{Try, go, stop, after, tried, tries, try_to, every}
+use Rattle.loops.specs.Turns.{Try, go, stop, after, tries, try_to, every}
 use Rattle.loops.proofs.Turning.{try_to-all}
-use Rattle.solver.specs.Inside.{columns_in}
 use Rattle.solver.specs.Reasons.{Reasoned, some, no_pivot, not_finite, on_some, option_of, or_no_pivot, columns_from, if_finite, reasoned_of, Forgotten, matrix_of, ComesTo, Pivots, Lacks, FirstColumn, NotFiniteExactly, ColumnNamed}
 use Rattle.solver.specs.Steps.{Sys, sys, scale_of, singular, column_of, eliminated_of, back_of, all_finite, solution_of}
 

@@ -1,5 +1,4 @@
 -- Assumes nothing.
-use borrow.Author.Rules.{rules}
 use Rattle.answer.proofs.failed.Goals as goal
 
 pub returns : goal.returns

@@ -1,10 +1,6 @@
 -- Assumes nothing.
-use Prim.Native.Nat.{◌≤◌, ◌-◌}
-use mathlib.Core.List.{◌++◌}
-use mathlib.Core.Path.{◌≡◌, refl}
-use lib.ListN.{length, drop, replicate}
+use mathlib.Core.Path.{refl}
 use borrow.Author.Rules.{rules}
-use Rattle.floats.specs.Ops.{zero⁺}
 use Rattle.loops.proofs.Writes.{fill-next, fill_done}
 use Rattle.floats.proofs.clear.Goals as goal
 

@@ -1,10 +1,8 @@
-use Prim.Native.Nat.{◌≤◌, ◌-◌}
+use Prim.Native.Nat.{◌≤◌}
 use mathlib.Core.List.{◌++◌}
-use mathlib.Core.Path.{◌≡◌, refl}
+use mathlib.Core.Path.{◌≡◌}
 use lib.ListN.{length, drop, replicate}
-use borrow.Author.Rules.{rules}
 use Rattle.floats.specs.Ops.{zero⁺}
-use Rattle.loops.proofs.Writes.{fill-next, fill_done}
 use Rattle.floats.proofs.clear.Given as goal
 
 abbrev pub invariant-loop-i : goal.invariant-loop-i

@@ -1,17 +1,8 @@
-use Prim.Native.Nat.{ℕ, ◌-◌, ◌≤◌, ◌<◌, min}
-use mathlib.Core.List.{List, ◌++◌, map, map-id}
-use mathlib.Core.Bool.{Bool, true, false}
-use mathlib.Core.Path.{◌≡◌, refl, ◌∙◌}
-use native.Mathlib.Nat.{le_antisymm, min-le_left, min-le_right, le_of_lt, le_refl, min-eq_left, min-eq_right}
-use native.Mathlib.Omega.{arith}
-use borrow.Author.Rules.{rules}
-use borrow.Author.Tests.{ltb-true, ltb-false}
-use lib.Dec.{ltb}
-use lib.Ieee.{Float, nan}
-use lib.ListN.{length, take, drop, drop_of_length-le}
-use lib.Seq.{take_all}
-use Rattle.loops.proofs.Writes.{into_next}
-use Rattle.floats.specs.Lists.{copied_of}
+use Prim.Native.Nat.{◌≤◌, min}
+use mathlib.Core.List.{◌++◌, map}
+use mathlib.Core.Path.{◌≡◌}
+use lib.Ieee.{Float}
+use lib.ListN.{length, take, drop}
 use Rattle.floats.proofs.copy.Given as goal
 
 abbrev pub invariant-loop-i : goal.invariant-loop-i

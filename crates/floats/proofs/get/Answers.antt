@@ -1,5 +1,4 @@
 -- Past the end there is the default, which 0 / 0 is. Assumes nothing.
-use borrow.Author.Rules.{rules}
 use mathlib.Core.Path.{sym}
 use lib.ListN.{get_or-eq_default}
 use lib.Ieee.{nan, div, of_bits}

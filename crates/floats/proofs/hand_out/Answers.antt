@@ -1,9 +1,9 @@
 -- In the logic there is one NaN, so that nothing changes. Assumes nothing.
-use Prim.Native.Nat.{ℕ, ◌≤◌, ◌-◌}
+use Prim.Native.Nat.{ℕ}
 use mathlib.Core.List.{List}
 use mathlib.Core.Path.{◌≡◌, refl, ◌∙◌}
 use lib.Ieee.{Float, nan}
-use lib.ListN.{length, get_or, set}
+use lib.ListN.{get_or, set}
 use lib.Seq.{set-get_or}
 use borrow.Author.Rules.{rules}
 use Rattle.floats.proofs.hand_out.Goals as goal

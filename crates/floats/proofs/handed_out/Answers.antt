@@ -1,5 +1,4 @@
 -- The logic has one NaN, which 0 / 0 is. Assumes nothing.
-use borrow.Author.Rules.{rules}
 use mathlib.Core.Path.{sym}
 use lib.Ieee.{div, of_bits}
 use Rattle.floats.proofs.Values.{only_nan}

@@ -1,6 +1,5 @@
 use lib.Ieee.{of_bits, div}
 use Rattle.floats.specs.Largest.{larger_abs}
-use borrow.Author.Rules.{rules}
 use Rattle.floats.proofs.larger_abs.Goals as goal
 
 pub returns-then-is_finite : goal.returns-then-is_finite

@@ -1,9 +1,6 @@
-use Prim.Native.Nat.{◌≤◌, ◌-◌}
-use mathlib.Core.Path.{◌≡◌, refl}
-use lib.ListN.{length, drop}
+use mathlib.Core.Path.{refl}
 use lib.Ieee.{nan}
 use borrow.Author.Rules.{rules}
-use Rattle.loops.specs.Turns.{fold}
 use Rattle.loops.proofs.Turning.{fold_next, fold_done}
 use Rattle.floats.specs.Largest.{larger_abs, max_abs_of}
 use Rattle.floats.proofs.max_abs.Goals as goal

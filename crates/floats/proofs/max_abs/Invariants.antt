@@ -1,10 +1,7 @@
-use Prim.Native.Nat.{◌≤◌, ◌-◌}
-use mathlib.Core.Path.{◌≡◌, refl}
+use Prim.Native.Nat.{◌≤◌}
+use mathlib.Core.Path.{◌≡◌}
 use lib.ListN.{length, drop}
-use lib.Ieee.{nan}
-use borrow.Author.Rules.{rules}
 use Rattle.loops.specs.Turns.{fold}
-use Rattle.loops.proofs.Turning.{fold_next, fold_done}
 use Rattle.floats.specs.Largest.{larger_abs, max_abs_of}
 use Rattle.floats.proofs.max_abs.Given as goal
 

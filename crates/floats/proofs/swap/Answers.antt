@@ -1,4 +1,3 @@
-use borrow.Author.Rules.{rules}
 use Rattle.floats.specs.Lists.{swap_at}
 use Rattle.floats.proofs.swap.Goals as goal
 

@@ -1,5 +1,4 @@
 -- Assumes nothing.
-use borrow.Author.Rules.{rules}
 use Rattle.grammar.proofs.Theorem.{reads-form}
 use Rattle.grammar.proofs.read.Goals as goal
 

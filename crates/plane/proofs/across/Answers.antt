@@ -1,5 +1,4 @@
 -- Assumes nothing.
-use borrow.Author.Rules.{rules}
 use Rattle.plane.specs.Vectors.{across_of}
 use Rattle.plane.proofs.across.Goals as goal
 

@@ -1,5 +1,4 @@
 -- Assumes nothing.
-use borrow.Author.Rules.{rules}
 use Rattle.plane.specs.Vectors.{norm_of}
 use Rattle.plane.proofs.norm.Goals as goal
 

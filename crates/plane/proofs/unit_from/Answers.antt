@@ -1,5 +1,4 @@
 -- Assumes nothing.
-use borrow.Author.Rules.{rules}
 use Rattle.plane.specs.Vectors.{unit_from_of}
 use Rattle.plane.proofs.unit_from.Goals as goal
 

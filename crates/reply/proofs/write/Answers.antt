@@ -1,6 +1,5 @@
 -- Where there may be no room, the first pass counts and the second writes. Assumes nothing.
 use native.Mathlib.Omega.{arith}
-use borrow.Author.Rules.{rules}
 use Rattle.reply.specs.Reply.{reply_of}
 use Rattle.reply.proofs.Short.{short}
 use Rattle.reply.proofs.Written.{length-counted, room, no-room}

@@ -1,8 +1,6 @@
 -- `root::climb` meets its contract: the lower halfway point stays below, and a turn's test shows it of the next number. Assumes nothing.
-use Prim.Native.Nat.{◌+◌, ◌-◌, ◌*◌, ◌^◌, ◌≤◌}
+use Prim.Native.Nat.{◌+◌, ◌*◌, ◌^◌}
 use native.Mathlib.Omega.{arith}
-use borrow.Author.Rules.{rules}
-use Rattle.root.specs.Whole.{Over}
 use Rattle.root.proofs.Whole.{no_tie, over-small, up}
 use Rattle.root.proofs.Halves.{square-over, square-under}
 use Rattle.root.proofs.climb.Goals as goal

@@ -1,9 +1,5 @@
-use Prim.Native.Nat.{◌+◌, ◌-◌, ◌*◌, ◌^◌, ◌≤◌}
-use native.Mathlib.Omega.{arith}
-use borrow.Author.Rules.{rules}
+use Prim.Native.Nat.{◌-◌, ◌^◌}
 use Rattle.root.specs.Whole.{Over}
-use Rattle.root.proofs.Whole.{no_tie, over-small, up}
-use Rattle.root.proofs.Halves.{square-over, square-under}
 use Rattle.root.proofs.climb.Given as goal
 
 abbrev pub invariant-loop-a : goal.invariant-loop-a

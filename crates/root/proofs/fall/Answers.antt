@@ -1,8 +1,6 @@
 -- `root::fall` meets its contract: the upper halfway point stays above, and a turn's test shows it of the next number. Assumes nothing.
-use Prim.Native.Nat.{◌-◌, ◌*◌, ◌^◌, ◌≤◌}
+use Prim.Native.Nat.{◌-◌, ◌*◌}
 use native.Mathlib.Omega.{arith}
-use borrow.Author.Rules.{rules}
-use Rattle.root.specs.Whole.{Under}
 use Rattle.root.proofs.Whole.{under-large, down}
 use Rattle.root.proofs.Halves.{square-over, square-under}
 use Rattle.root.proofs.fall.Goals as goal

@@ -1,9 +1,5 @@
-use Prim.Native.Nat.{◌-◌, ◌*◌, ◌^◌, ◌≤◌}
-use native.Mathlib.Omega.{arith}
-use borrow.Author.Rules.{rules}
+use Prim.Native.Nat.{◌^◌, ◌≤◌}
 use Rattle.root.specs.Whole.{Under}
-use Rattle.root.proofs.Whole.{under-large, down}
-use Rattle.root.proofs.Halves.{square-over, square-under}
 use Rattle.root.proofs.fall.Given as goal
 
 abbrev pub invariant-loop-a : goal.invariant-loop-a

@@ -6,7 +6,6 @@ use native.Mathlib.Omega.{arith}
 use lib.Dec.{lit≤}
 use lib.Pow.{pow_pos, pow-add}
 use lib.Ieee.{Float, binary64, of_bits, add, sub, mul}
-use borrow.Author.Rules.{rules}
 use Rattle.root.specs.Root.{count}
 use Rattle.root.proofs.Order.{count-le}
 use Rattle.root.proofs.Place.{count-is}

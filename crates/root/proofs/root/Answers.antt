@@ -1,11 +1,9 @@
 -- `root::root` meets its contract: the whole number's root, placed, is the pattern that the definition finds. Assumes nothing.
 use mathlib.Core.Path.{sym, ap}
-use Prim.Native.Nat.{◌-◌, ◌^◌, ◌≤◌, ◌<◌}
 use native.Mathlib.Omega.{arith}
 use lib.Ieee.{binary64, of_bits}
-use borrow.Author.Rules.{rules}
 use Rattle.root.proofs.Whole.{root-small}
-use Rattle.root.proofs.Place.{inside, inside-ge, inside-le, root_is}
+use Rattle.root.proofs.Place.{inside-ge, inside-le, root_is}
 use Rattle.root.proofs.Patterns.{no_nan}
 use Rattle.root.proofs.root.Goals as goal
 

@@ -6,7 +6,6 @@ use native.Mathlib.Omega.{arith}
 use lib.Dec.{T}
 use lib.Ieee.{Float, nan, binary64, div, fits, of_bits, to_bits}
 use lib.Ieee.Compare.{differs_from_itself}
-use borrow.Author.Rules.{rules}
 use Rattle.root.specs.Root.{root_bits, sqrt_of}
 use Rattle.root.proofs.Normal.{count_low, normal-is}
 use Rattle.root.specs.Examples.{root-zero, root-minus-zero, root-infinite}

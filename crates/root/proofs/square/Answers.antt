@@ -1,6 +1,5 @@
 -- `root::square` meets its contract. Assumes nothing.
 use native.Mathlib.Omega.{arith}
-use borrow.Author.Rules.{rules}
 use Rattle.root.proofs.Halves.{parts, by-halves}
 use Rattle.root.proofs.square.Goals as goal
 

@@ -1,5 +1,4 @@
 use Rattle.run.proofs.Joined.{build-run}
-use borrow.Author.Rules.{rules}
 use Rattle.run.proofs.reply_to.Goals as goal
 
 pub returns : goal.returns

@@ -1,5 +1,4 @@
 use Rattle.run.proofs.Joined.{read-run, refused-run}
-use borrow.Author.Rules.{rules}
 use Rattle.run.proofs.run.Goals as goal
 
 pub returns-in-Read : goal.returns-in-Read

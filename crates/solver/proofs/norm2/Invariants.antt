@@ -1,10 +1,7 @@
-use lib.Ieee.{nan, neg, of_bits}
-use borrow.Author.Rules.{rules}
-use Prim.Native.Nat.{◌≤◌, ◌-◌}
-use mathlib.Core.Path.{◌≡◌, refl, ◌∙◌}
+use Prim.Native.Nat.{◌≤◌}
+use mathlib.Core.Path.{◌≡◌}
 use lib.ListN.{length, drop}
 use Rattle.loops.specs.Turns.{fold}
-use Rattle.loops.proofs.Turning.{fold_next, fold_done}
 use Rattle.solver.specs.Sums.{add_square, norm2_of}
 use Rattle.solver.proofs.norm2.Given as goal
 

@@ -19,7 +19,6 @@ use Rattle.solver.specs.declared.Elimination.{Elimination}
 use Rattle.solver.specs.Promise.{Solves, Finds, is_some, meaning_of, found, meant, or_zeros, solved}
 use Rattle.solver.specs.Reasons.{Reasoned, some, no_pivot, not_finite}
 use Rattle.solver.proofs.Checking.{too-many, short-matrix, short-right, carried-out}
-use borrow.Author.Rules.{rules}
 use Rattle.solver.proofs.solve_dense.Goals as goal
 
 square-fits : (n : ℕ) → n ≤ 80 → Fits w64 (n * n)

@@ -15,7 +15,6 @@ use Rattle.solver.specs.Reasons.{some, no_pivot, not_finite, on_some, if_finite,
 use Rattle.solver.specs.Steps.{sys, back_of}
 use Rattle.solver.proofs.Lesser.{same-elimination}
 use Rattle.solver.proofs.Columns.{columns-some, columns-none}
-use borrow.Author.Rules.{rules}
 use Rattle.solver.proofs.solve_square.Goals as goal
 
 module _ (n : ℕ) (a b a₁ b₁ : List Float) (c : ℕ) (done : columns_in c (sys a₁ b₁) ≡ lesser_eliminated n (sys a b)) where

@@ -3,9 +3,7 @@ use mathlib.Core.Path.{◌≡◌}
 use native.Mathlib.Omega.{arith}
 use lib.ListN.{length}
 use Rattle.loops.proofs.Parts.{front}
-use Rattle.members.proofs.Sized.{sized}
 use Rattle.fit.proofs.Shows.{fit_is}
-use borrow.Author.Rules.{rules}
 use Rattle.fit.proofs.fits.fit.Goals as goal
 
 pub slice_bounds-solve-end : goal.slice_bounds-solve-end

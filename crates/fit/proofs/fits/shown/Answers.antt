@@ -1,4 +1,3 @@
-use borrow.Author.Rules.{rules}
 use Rattle.fit.proofs.fits.shown.Goals as goal
 
 pub returns-in-Converged : goal.returns-in-Converged

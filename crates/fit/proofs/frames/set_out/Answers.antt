@@ -1,4 +1,3 @@
-use borrow.Author.Rules.{rules}
 use Rattle.fit.proofs.Sets.{set-out-is}
 use Rattle.fit.proofs.frames.set_out.Goals as goal
 

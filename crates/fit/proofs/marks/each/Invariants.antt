@@ -1,13 +1,10 @@
-use Prim.Native.Nat.{◌-◌, ◌≤◌, ◌<◌}
-use mathlib.Core.Path.{◌≡◌, refl, sym, ◌∙◌}
-use native.Mathlib.Omega.{arith}
-use borrow.Author.Rules.{rules}
+use Prim.Native.Nat.{◌≤◌}
+use mathlib.Core.Path.{◌≡◌}
 use lib.ListN.{length, drop}
 use Rattle.loops.specs.Turns.{fold}
 use Rattle.members.specs.Lists.{numbers_of}
 use Rattle.fit.specs.Fits.{mark, suspects_of}
 use Rattle.fit.specs.Promise.{jacobian_left, product_left, copy_left}
-use Rattle.fit.proofs.MarksLaws.{still-long, marked, turn-next, turns-over}
 use Rattle.fit.proofs.marks.each.Given as goal
 
 abbrev pub invariant-loop-i : goal.invariant-loop-i

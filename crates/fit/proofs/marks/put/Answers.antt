@@ -1,7 +1,6 @@
 -- Assumes nothing.
 use mathlib.Core.Path.{sym}
 use lib.Seq.{set_out}
-use borrow.Author.Rules.{rules}
 use Rattle.fit.proofs.marks.put.Goals as goal
 
 pub returns-else-k-marks : goal.returns-else-k-marks

@@ -1,6 +1,5 @@
 -- Assumes nothing.
 use Rattle.fit.proofs.MarksLaws.{tests}
-use borrow.Author.Rules.{rules}
 use Rattle.fit.proofs.marks.suspect.Goals as goal
 
 pub returns : goal.returns

@@ -1,6 +1,5 @@
 -- Assumes nothing.
 use Rattle.fit.proofs.MarksLaws.{unmarked, marks-all}
-use borrow.Author.Rules.{rules}
 use Rattle.fit.proofs.marks.suspects.Goals as goal
 
 pub returns-then-p-q : goal.returns-then-p-q

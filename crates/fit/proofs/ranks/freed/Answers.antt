@@ -1,5 +1,4 @@
 -- Assumes nothing.
-use borrow.Author.Rules.{rules}
 use Rattle.fit.proofs.ranks.freed.Goals as goal
 
 pub returns-in-Rank : goal.returns-in-Rank

@@ -4,7 +4,6 @@ use mathlib.Core.Path.{sym, ◌∙◌}
 use lib.ListN.{length}
 use Rattle.rounds.proofs.Begins.{none-short}
 use Rattle.fit.proofs.RanksLaws.{refused, refused-rows, frees}
-use borrow.Author.Rules.{rules}
 use Rattle.fit.proofs.ranks.freedom.Goals as goal
 
 pub returns-then-p-q : goal.returns-then-p-q

@@ -3,9 +3,7 @@ use native.Mathlib.Omega.{arith}
 use lib.ListN.{length-take}
 use mathlib.Core.Path.{sym}
 use Rattle.loops.proofs.Parts.{front}
-use Rattle.members.proofs.Sized.{sized}
 use Rattle.fit.proofs.RanksLaws.{lays}
-use borrow.Author.Rules.{rules}
 use Rattle.fit.proofs.ranks.lay.Goals as goal
 
 pub slice_bounds-items-end : goal.slice_bounds-items-end

@@ -1,7 +1,5 @@
 -- Assumes nothing.
-use Rattle.members.proofs.Sized.{sized}
 use Rattle.fit.proofs.RanksLaws.{listed}
-use borrow.Author.Rules.{rules}
 use Rattle.fit.proofs.ranks.numbers.Goals as goal
 
 pub returns : goal.returns

@@ -5,7 +5,6 @@ use lib.ListN.{length}
 use Rattle.loops.proofs.Parts.{front}
 use Rattle.rounds.proofs.Begins.{table_fits, fits_in}
 use Rattle.fit.proofs.RanksLaws.{ranks}
-use borrow.Author.Rules.{rules}
 use Rattle.fit.proofs.ranks.rank.Goals as goal
 
 pub overflow_mul-size : goal.overflow_mul-size

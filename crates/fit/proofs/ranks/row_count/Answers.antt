@@ -1,12 +1,9 @@
 -- Assumes nothing.
-use Prim.Native.Nat.{◌-◌, ◌*◌, ◌≤◌, ◌<◌}
-use mathlib.Core.Path.{◌≡◌, refl, sym, ap, ◌∙◌}
+use Prim.Native.Nat.{◌≤◌, ◌<◌}
+use mathlib.Core.Path.{◌≡◌, refl, ap}
 use native.Mathlib.Omega.{arith}
-use borrow.Author.Rules.{rules}
-use lib.ListN.{length, take, drop, length-take, length-map}
+use lib.ListN.{length, length-take}
 use Rattle.loops.proofs.Parts.{any-default}
-use Rattle.loops.specs.Turns.{fold}
-use Rattle.rounds.specs.Problem.{more_rows}
 use Rattle.sketch.specs.Blank.{blank_active}
 use Rattle.sketch.proofs.AtMostTwo.{two-at-most}
 use Rattle.sketch.specs.declared.Active.{Active}

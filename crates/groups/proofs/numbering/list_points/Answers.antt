@@ -1,14 +1,12 @@
 -- Each turn gives at most one number, so that the count stays within the points passed. Assumes nothing.
-use Prim.Native.Nat.{◌≤◌, ◌-◌}
 use mathlib.Core.Bool.{false}
-use mathlib.Core.Path.{◌≡◌, refl, ap}
+use mathlib.Core.Path.{refl, ap}
 use native.Mathlib.Omega.{arith}
 use borrow.Author.Rules.{rules}
-use lib.ListN.{length, get_or}
-use Rattle.loops.specs.Turns.{up_to}
+use lib.ListN.{get_or}
 use Rattle.loops.proofs.Turning.{up_to-next, up_to-done}
 use Rattle.groups.specs.Listed.{list_point, list_points, point_of}
-use Rattle.groups.specs.Parents.{Falls, Gives}
+use Rattle.groups.specs.Parents.{Gives}
 use Rattle.groups.specs.declared.Listing.{Listing}
 use Rattle.groups.proofs.Laws.{point-falls, point-count, both}
 use Rattle.groups.proofs.numbering.list_points.Goals as goal

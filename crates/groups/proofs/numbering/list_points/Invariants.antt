@@ -1,15 +1,9 @@
-use Prim.Native.Nat.{◌≤◌, ◌-◌}
-use mathlib.Core.Bool.{false}
-use mathlib.Core.Path.{◌≡◌, refl, ap}
-use native.Mathlib.Omega.{arith}
-use borrow.Author.Rules.{rules}
-use lib.ListN.{length, get_or}
+use Prim.Native.Nat.{◌≤◌}
+use mathlib.Core.Path.{◌≡◌}
+use lib.ListN.{length}
 use Rattle.loops.specs.Turns.{up_to}
-use Rattle.loops.proofs.Turning.{up_to-next, up_to-done}
-use Rattle.groups.specs.Listed.{list_point, list_points, point_of}
-use Rattle.groups.specs.Parents.{Falls, Gives}
-use Rattle.groups.specs.declared.Listing.{Listing}
-use Rattle.groups.proofs.Laws.{point-falls, point-count, both}
+use Rattle.groups.specs.Listed.{list_point, list_points}
+use Rattle.groups.specs.Parents.{Falls}
 use Rattle.groups.proofs.numbering.list_points.Given as goal
 
 abbrev pub invariant-loop-q : goal.invariant-loop-q

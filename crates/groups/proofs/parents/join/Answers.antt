@@ -1,5 +1,4 @@
 -- Assumes nothing.
-use borrow.Author.Rules.{rules}
 use Rattle.groups.proofs.Laws.{root-falls, join_is}
 use Rattle.groups.proofs.parents.join.Goals as goal
 

@@ -1,16 +1,8 @@
-use Prim.Native.Nat.{ℕ, ◌+◌, ◌-◌, ◌<◌}
-use mathlib.Core.List.{List}
-use mathlib.Core.Path.{◌≡◌, refl}
-use native.Mathlib.Omega.{arith}
-use borrow.Author.Rules.{rules}
+use mathlib.Core.Path.{◌≡◌}
 use lib.ListN.{length, get_or, drop}
 use Rattle.loops.specs.Turns.{fold}
-use Rattle.loops.proofs.Turning.{fold_next, fold_done}
-use Rattle.sketch.specs.declared.Touched.{Touched}
 use Rattle.groups.specs.Parents.{Falls, join_to, join_all}
-use Rattle.groups.specs.Touches.{number_at, numbers_of}
-use Rattle.groups.proofs.Forest.{join-falls}
-use Rattle.groups.proofs.Laws.{number-at, numbers-length}
+use Rattle.groups.specs.Touches.{numbers_of}
 use Rattle.groups.proofs.parents.join_all.Given as goal
 
 abbrev pub invariant-loop-j : goal.invariant-loop-j

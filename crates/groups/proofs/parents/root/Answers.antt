@@ -1,8 +1,6 @@
 -- Each turn goes to a lower point and leaves the root as it was. Assumes nothing.
-use mathlib.Core.Path.{◌≡◌, refl}
+use mathlib.Core.Path.{refl}
 use borrow.Author.Rules.{rules}
-use lib.ListN.{length}
-use Rattle.groups.specs.Parents.{up, Falls, root_of}
 use Rattle.groups.proofs.Laws.{ends-answer, ends-parents, turn-falls, turn-less, turn-root}
 use Rattle.groups.proofs.parents.root.Goals as goal
 

@@ -1,8 +1,6 @@
-use mathlib.Core.Path.{◌≡◌, refl}
-use borrow.Author.Rules.{rules}
+use mathlib.Core.Path.{◌≡◌}
 use lib.ListN.{length}
-use Rattle.groups.specs.Parents.{up, Falls, root_of}
-use Rattle.groups.proofs.Laws.{ends-answer, ends-parents, turn-falls, turn-less, turn-root}
+use Rattle.groups.specs.Parents.{Falls, root_of}
 use Rattle.groups.proofs.parents.root.Given as goal
 
 abbrev pub invariant-loop-x : goal.invariant-loop-x

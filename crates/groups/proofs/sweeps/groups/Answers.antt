@@ -2,9 +2,9 @@
 -- far. Assumes nothing.
 use Prim.Native.Nat.{ℕ}
 use mathlib.Core.List.{List}
-use mathlib.Core.Path.{◌≡◌, sym, ◌∙◌}
+use mathlib.Core.Path.{◌≡◌}
 use borrow.Author.Rules.{rules}
-use lib.ListN.{length, length-map}
+use lib.ListN.{length}
 use Rattle.groups.specs.Parents.{Falls, alone, joined}
 use Rattle.groups.specs.Touches.{touches_in}
 use Rattle.groups.proofs.Filled.{row_is, row_count}

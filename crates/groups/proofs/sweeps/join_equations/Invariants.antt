@@ -1,14 +1,9 @@
-use Prim.Native.Nat.{◌-◌, ◌≤◌}
-use mathlib.Core.Path.{◌≡◌, refl}
-use native.Mathlib.Omega.{arith}
-use borrow.Author.Rules.{rules}
+use Prim.Native.Nat.{◌≤◌}
+use mathlib.Core.Path.{◌≡◌}
 use lib.ListN.{length}
 use Rattle.loops.specs.Turns.{up_to}
-use Rattle.loops.proofs.Turning.{up_to-done}
 use Rattle.groups.specs.Parents.{Falls, join_all, joined}
 use Rattle.groups.specs.Touches.{touches_in}
-use Rattle.groups.proofs.Filled.{row_at}
-use Rattle.groups.proofs.Laws.{join-turn, join_all-falls}
 use Rattle.groups.proofs.sweeps.join_equations.Given as goal
 
 abbrev pub invariant-loop-k : goal.invariant-loop-k

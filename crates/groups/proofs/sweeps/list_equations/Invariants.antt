@@ -1,15 +1,10 @@
-use Prim.Native.Nat.{◌-◌, ◌≤◌}
-use mathlib.Core.Path.{◌≡◌, refl, ap}
-use native.Mathlib.Omega.{arith}
-use borrow.Author.Rules.{rules}
+use Prim.Native.Nat.{◌≤◌}
+use mathlib.Core.Path.{◌≡◌}
 use lib.ListN.{length}
 use Rattle.loops.specs.Turns.{up_to}
-use Rattle.loops.proofs.Turning.{up_to-done}
 use Rattle.groups.specs.Listed.{list_equation, list_equations}
 use Rattle.groups.specs.Parents.{Falls}
 use Rattle.groups.specs.Touches.{touches_in}
-use Rattle.groups.proofs.Filled.{row_at}
-use Rattle.groups.proofs.Laws.{list-turn, group-falls}
 use Rattle.groups.proofs.sweeps.list_equations.Given as goal
 
 abbrev pub invariant-loop-k : goal.invariant-loop-k

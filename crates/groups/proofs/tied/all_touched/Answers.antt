@@ -1,10 +1,6 @@
 -- Filled place after place; that the row says the same of every equation makes the two one function. Assumes nothing.
-use Prim.Native.Nat.{ℕ, ◌-◌, ◌≤◌}
-use mathlib.Core.Path.{◌≡◌}
 use native.Mathlib.Omega.{arith}
 use borrow.Author.Rules.{rules}
-use lib.ListN.{length, take}
-use Rattle.groups.specs.Touches.{touched_in, touches_in}
 use Rattle.groups.proofs.Filled.{blank, touch-next, filled}
 use Rattle.groups.proofs.tied.all_touched.Goals as goal
 

@@ -1,10 +1,7 @@
-use Prim.Native.Nat.{ℕ, ◌-◌, ◌≤◌}
+use Prim.Native.Nat.{ℕ, ◌≤◌}
 use mathlib.Core.Path.{◌≡◌}
-use native.Mathlib.Omega.{arith}
-use borrow.Author.Rules.{rules}
 use lib.ListN.{length, take}
 use Rattle.groups.specs.Touches.{touched_in, touches_in}
-use Rattle.groups.proofs.Filled.{blank, touch-next, filled}
 use Rattle.groups.proofs.tied.all_touched.Given as goal
 
 abbrev pub invariant-loop-k : goal.invariant-loop-k

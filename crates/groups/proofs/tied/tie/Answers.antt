@@ -1,6 +1,5 @@
 -- Past the end a store changes nothing. Assumes nothing.
 use mathlib.Core.Path.{sym}
-use borrow.Author.Rules.{rules}
 use lib.Seq.{set_out}
 use Rattle.groups.proofs.tied.tie.Goals as goal
 

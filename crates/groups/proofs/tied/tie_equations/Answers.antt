@@ -1,12 +1,9 @@
 -- Assumes nothing.
-use Prim.Native.Nat.{◌-◌, ◌≤◌}
-use mathlib.Core.Path.{◌≡◌, refl}
+use mathlib.Core.Path.{refl}
 use native.Mathlib.Omega.{arith}
 use borrow.Author.Rules.{rules}
-use lib.ListN.{length}
-use Rattle.loops.specs.Turns.{up_to}
 use Rattle.loops.proofs.Turning.{up_to-done}
-use Rattle.groups.specs.Tied.{tie_all, tied_in, tied_of}
+use Rattle.groups.specs.Tied.{tie_all, tied_in}
 use Rattle.groups.specs.Touches.{touches_in}
 use Rattle.groups.proofs.Filled.{row_at}
 use Rattle.groups.proofs.Laws.{tie-turn}

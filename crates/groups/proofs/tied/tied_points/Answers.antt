@@ -1,7 +1,6 @@
 -- The row says of each equation what the build does, and goes as far. Assumes nothing.
-use mathlib.Core.Path.{◌≡◌, sym, ◌∙◌}
-use borrow.Author.Rules.{rules}
-use lib.ListN.{length, length-map}
+use mathlib.Core.Path.{◌≡◌}
+use lib.ListN.{length}
 use Rattle.groups.proofs.Filled.{row_is, row_count}
 use Rattle.groups.proofs.tied.tied_points.Goals as goal
 

@@ -1,7 +1,6 @@
 -- Assumes nothing.
 use Rattle.job.proofs.Answers.{failed-is}
 use Rattle.job.proofs.Freeing.{roomy}
-use borrow.Author.Rules.{rules}
 use Rattle.job.proofs.ends.failed.Goals as goal
 
 pub returns : goal.returns

@@ -1,6 +1,5 @@
 -- Assumes nothing.
 use Rattle.job.proofs.Answers.{ended-failing, ended-fitted}
-use borrow.Author.Rules.{rules}
 use Rattle.job.proofs.ends.fit_all.Goals as goal
 
 pub returns-then-w : goal.returns-then-w

@@ -4,7 +4,6 @@ use mathlib.Core.Path.{◌≡◌, ◌∙◌}
 use borrow.Author.Rules.{rules}
 use lib.ListN.{length}
 use Rattle.loops.proofs.Parts.{front}
-use Rattle.job.proofs.Laying.{sized}
 use Rattle.job.proofs.Measured.{handed-points}
 use Rattle.job.proofs.ends.fitted.Goals as goal
 

@@ -6,7 +6,6 @@ use lib.ListN.{drop}
 use lib.Seq.{length_front}
 use Rattle.floats.specs.Ops.{zero⁺}
 use Rattle.loops.proofs.Parts.{front, still-fits, refilled}
-use borrow.Author.Rules.{rules}
 use Rattle.job.proofs.ends.in_areas.Goals as goal
 
 pub slice_bounds-fit_all-end-2 : goal.slice_bounds-fit_all-end-2

@@ -3,7 +3,6 @@ use Rattle.job.proofs.Refusing.{room}
 use mathlib.Core.Path.{sym, ◌∙◌}
 use lib.ListN.{length}
 use Rattle.job.proofs.Answers.{does-refuse, does-fit}
-use borrow.Author.Rules.{rules}
 use Rattle.job.proofs.ends.solve.Goals as goal
 
 pub in_areas-requires : goal.in_areas-requires

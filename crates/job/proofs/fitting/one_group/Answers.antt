@@ -3,7 +3,6 @@ use native.Mathlib.Omega.{arith}
 use borrow.Author.Tests.{not-true, not-false}
 use Rattle.job.proofs.Freeing.{roomy}
 use Rattle.job.proofs.Stepping.{one-failed, one-converged}
-use borrow.Author.Rules.{rules}
 use Rattle.job.proofs.fitting.one_group.Goals as goal
 
 pub returns-then-not-converged : goal.returns-then-not-converged

@@ -1,9 +1,7 @@
 -- Assumes nothing.
 use mathlib.Core.Path.{sym}
 use native.Mathlib.Omega.{arith}
-use Rattle.job.proofs.Laying.{sized}
 use Rattle.job.proofs.Stepping.{taken_is}
-use borrow.Author.Rules.{rules}
 use Rattle.job.proofs.fitting.taken.Goals as goal
 
 pub slice_bounds-freedom_at-end : goal.slice_bounds-freedom_at-end

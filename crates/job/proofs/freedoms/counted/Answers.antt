@@ -1,5 +1,4 @@
 -- Assumes nothing.
-use borrow.Author.Rules.{rules}
 use Rattle.job.proofs.freedoms.counted.Goals as goal
 
 pub returns-then-wanted : goal.returns-then-wanted

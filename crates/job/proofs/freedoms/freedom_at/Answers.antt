@@ -2,8 +2,6 @@
 use mathlib.Core.Path.{◌≡◌}
 use lib.ListN.{length}
 use Rattle.job.proofs.Freeing.{roomy, freedom-is, freedom-few}
-use Rattle.job.proofs.Laying.{sized}
-use borrow.Author.Rules.{rules}
 use Rattle.job.proofs.freedoms.freedom_at.Goals as goal
 
 pub returns : goal.returns

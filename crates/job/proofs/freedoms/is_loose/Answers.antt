@@ -1,5 +1,4 @@
 -- Assumes nothing.
-use borrow.Author.Rules.{rules}
 use Rattle.job.proofs.freedoms.is_loose.Goals as goal
 
 pub returns : goal.returns

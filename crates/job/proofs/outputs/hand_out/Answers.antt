@@ -5,7 +5,6 @@ use mathlib.Core.Path.{◌≡◌, refl, sym, ◌∙◌}
 use lib.ListN.{length, drop}
 use Rattle.loops.proofs.Parts.{front, still-fits}
 use Rattle.job.proofs.Handing.{handed-out}
-use Rattle.job.proofs.Laying.{sized}
 use borrow.Author.Rules.{rules}
 use Rattle.job.proofs.outputs.hand_out.Goals as goal
 

@@ -1,5 +1,4 @@
 -- Assumes nothing.
-use borrow.Author.Rules.{rules}
 use Rattle.job.proofs.points.place.Goals as goal
 
 pub returns-in-Placed : goal.returns-in-Placed

@@ -1,12 +1,9 @@
 -- Assumes nothing.
 use Rattle.job.proofs.Laying.{place-turn}
-use Prim.Native.Nat.{◌-◌, ◌≤◌}
-use mathlib.Core.Path.{◌≡◌, refl}
+use mathlib.Core.Path.{refl}
 use borrow.Author.Rules.{rules}
-use lib.ListN.{length}
-use Rattle.loops.specs.Turns.{up_to}
 use Rattle.loops.proofs.Turning.{up_to-done}
-use Rattle.job.specs.Points.{place_at, placed_in}
+use Rattle.job.specs.Points.{placed_in}
 use Rattle.job.proofs.points.place_all.Goals as goal
 
 pub loop-p-init : goal.loop-p-init

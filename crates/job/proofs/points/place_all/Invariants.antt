@@ -1,10 +1,7 @@
-use Rattle.job.proofs.Laying.{place-turn}
-use Prim.Native.Nat.{◌-◌, ◌≤◌}
-use mathlib.Core.Path.{◌≡◌, refl}
-use borrow.Author.Rules.{rules}
+use Prim.Native.Nat.{◌≤◌}
+use mathlib.Core.Path.{◌≡◌}
 use lib.ListN.{length}
 use Rattle.loops.specs.Turns.{up_to}
-use Rattle.loops.proofs.Turning.{up_to-done}
 use Rattle.job.specs.Points.{place_at, placed_in}
 use Rattle.job.proofs.points.place_all.Given as goal
 

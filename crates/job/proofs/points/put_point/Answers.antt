@@ -1,5 +1,4 @@
 -- Assumes nothing.
-use borrow.Author.Rules.{rules}
 use Rattle.job.proofs.points.put_point.Goals as goal
 
 pub returns : goal.returns

@@ -1,12 +1,9 @@
 -- Assumes nothing.
 use Rattle.job.proofs.Laying.{drawn-turn}
-use Prim.Native.Nat.{◌-◌, ◌≤◌}
-use mathlib.Core.Path.{◌≡◌, refl}
+use mathlib.Core.Path.{refl}
 use borrow.Author.Rules.{rules}
-use lib.ListN.{length}
-use Rattle.loops.specs.Turns.{up_to}
 use Rattle.loops.proofs.Turning.{up_to-done}
-use Rattle.job.specs.Points.{drawn_at, drawn}
+use Rattle.job.specs.Points.{drawn}
 use Rattle.job.proofs.points.starts.Goals as goal
 
 pub loop-p-init : goal.loop-p-init

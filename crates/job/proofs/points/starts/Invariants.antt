@@ -1,10 +1,7 @@
-use Rattle.job.proofs.Laying.{drawn-turn}
-use Prim.Native.Nat.{◌-◌, ◌≤◌}
-use mathlib.Core.Path.{◌≡◌, refl}
-use borrow.Author.Rules.{rules}
+use Prim.Native.Nat.{◌≤◌}
+use mathlib.Core.Path.{◌≡◌}
 use lib.ListN.{length}
 use Rattle.loops.specs.Turns.{up_to}
-use Rattle.loops.proofs.Turning.{up_to-done}
 use Rattle.job.specs.Points.{drawn_at, drawn}
 use Rattle.job.proofs.points.starts.Given as goal
 

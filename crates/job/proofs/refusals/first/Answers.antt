@@ -1,5 +1,4 @@
 -- Assumes nothing.
-use borrow.Author.Rules.{rules}
 use Rattle.job.proofs.refusals.first.Goals as goal
 
 pub returns-in-Ends : goal.returns-in-Ends

@@ -1,7 +1,6 @@
 -- Assumes nothing.
 use mathlib.Core.Path.{sym, ◌∙◌}
 use Rattle.job.specs.Promise.{verdict_of}
-use borrow.Author.Rules.{rules}
 use Rattle.job.proofs.refusals.verdict.Goals as goal
 
 pub returns-then-counts_over : goal.returns-then-counts_over

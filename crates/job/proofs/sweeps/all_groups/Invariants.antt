@@ -1,10 +1,7 @@
-use Prim.Native.Nat.{◌*◌, ◌-◌, ◌≤◌, ◌<◌}
-use mathlib.Core.Path.{◌≡◌, refl}
-use native.Mathlib.Omega.{arith}
-use borrow.Author.Rules.{rules}
+use Prim.Native.Nat.{◌*◌, ◌-◌, ◌≤◌}
+use mathlib.Core.Path.{◌≡◌}
 use lib.ListN.{length}
 use Rattle.job.specs.Groups.{begin, groups_from}
-use Rattle.job.proofs.Stepping.{begin-free, groups-begin, groups-next, groups-stop, groups-done}
 use Rattle.job.proofs.sweeps.all_groups.Given as goal
 
 abbrev pub invariant-loop-g : goal.invariant-loop-g

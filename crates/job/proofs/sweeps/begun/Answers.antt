@@ -1,6 +1,5 @@
 -- Assumes nothing.
 use Rattle.job.specs.Groups.{begin}
-use borrow.Author.Rules.{rules}
 use Rattle.job.proofs.sweeps.begun.Goals as goal
 
 pub returns : goal.returns

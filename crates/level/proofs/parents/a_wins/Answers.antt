@@ -2,7 +2,6 @@
 use Prim.Native.Nat.{ℕ}
 use mathlib.Core.Bool.{Bool, true, false, beq}
 use mathlib.Core.Path.{◌≡◌, refl}
-use borrow.Author.Rules.{rules}
 use lib.Dec.{ltb}
 use Rattle.level.specs.Parents.{greater, a_wins}
 use Rattle.level.proofs.parents.a_wins.Goals as goal

@@ -1,15 +1,8 @@
-use Prim.Native.Nat.{ℕ, ◌≤◌, ◌-◌}
-use mathlib.Core.Bool.{true, false}
-use mathlib.Core.List.{List}
-use mathlib.Core.Logic.{◌≢◌}
-use mathlib.Core.Path.{◌≡◌, refl, sym, ap, ◌∙◌}
-use borrow.Author.Tests.{eq-eqb, ne_eqb}
-use borrow.Author.Rules.{rules}
+use Prim.Native.Nat.{◌≤◌}
+use mathlib.Core.Path.{◌≡◌}
 use lib.ListN.{length}
 use Rattle.loops.specs.Turns.{while_to}
-use Rattle.loops.proofs.Turning.{while_to-next, while_to-stop, while_to-done}
-use Rattle.level.specs.Parents.{up, below, halved, find_of}
-use Rattle.level.proofs.Both.{both}
+use Rattle.level.specs.Parents.{below, halved, find_of}
 use Rattle.level.proofs.parents.find.Given as goal
 
 abbrev pub invariant-loop : goal.invariant-loop

@@ -1,5 +1,4 @@
 -- What the calls promise, from the last to the first. Assumes nothing.
-use borrow.Author.Rules.{rules}
 use Rattle.level.specs.Parents.{halved}
 use Rattle.level.proofs.parents.halve.Goals as goal
 

@@ -3,7 +3,6 @@ use Prim.Native.Nat.{ℕ}
 use mathlib.Core.Bool.{Bool, true, false}
 use mathlib.Core.List.{List}
 use mathlib.Core.Path.{◌≡◌}
-use borrow.Author.Rules.{rules}
 use lib.ListN.{set}
 use Rattle.level.specs.Parents.{find_of, a_wins, join_to}
 use Rattle.level.proofs.parents.join.Goals as goal

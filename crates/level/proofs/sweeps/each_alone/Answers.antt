@@ -1,11 +1,8 @@
 -- Assumes nothing.
-use Prim.Native.Nat.{◌≤◌, ◌-◌}
-use mathlib.Core.Path.{◌≡◌, refl}
+use mathlib.Core.Path.{refl}
 use borrow.Author.Rules.{rules}
-use lib.ListN.{length}
-use Rattle.loops.specs.Turns.{up_to}
 use Rattle.loops.proofs.Turning.{up_to-next, up_to-done}
-use Rattle.level.specs.Parents.{self_at, alone}
+use Rattle.level.specs.Parents.{self_at}
 use Rattle.level.proofs.sweeps.each_alone.Goals as goal
 
 pub loop-p-init : goal.loop-p-init

@@ -1,5 +1,4 @@
 -- What the calls promise, from the last to the first. Assumes nothing.
-use borrow.Author.Rules.{rules}
 use Rattle.level.specs.Level.{level_axis}
 use Rattle.level.proofs.sweeps.level_axis.Goals as goal
 

@@ -1,11 +1,8 @@
 -- Assumes nothing.
-use Prim.Native.Nat.{◌-◌, ◌≤◌, min}
 use mathlib.Core.List.{List}
-use mathlib.Core.Path.{◌≡◌, refl, ap, ◌∙◌}
+use mathlib.Core.Path.{refl, ap, ◌∙◌}
 use borrow.Author.Rules.{rules}
 use lib.Ieee.{Float}
-use lib.ListN.{length}
-use Rattle.loops.specs.Turns.{up_to}
 use Rattle.loops.proofs.Turning.{up_to-next, up_to-done}
 use Rattle.level.specs.Level.{level_point, level_points}
 use Rattle.level.specs.Parents.{Gives}

@@ -1,14 +1,8 @@
-use Prim.Native.Nat.{◌-◌, ◌≤◌, min}
-use mathlib.Core.List.{List}
-use mathlib.Core.Path.{◌≡◌, refl, ap, ◌∙◌}
-use borrow.Author.Rules.{rules}
-use lib.Ieee.{Float}
+use Prim.Native.Nat.{◌≤◌, min}
+use mathlib.Core.Path.{◌≡◌}
 use lib.ListN.{length}
 use Rattle.loops.specs.Turns.{up_to}
-use Rattle.loops.proofs.Turning.{up_to-next, up_to-done}
 use Rattle.level.specs.Level.{level_point, level_points}
-use Rattle.level.specs.Parents.{Gives}
-use Rattle.level.proofs.Both.{both}
 use Rattle.level.proofs.sweeps.level_points.Given as goal
 
 abbrev pub invariant-loop-p : goal.invariant-loop-p

@@ -1,7 +1,6 @@
 -- Past the end there is the default. Assumes nothing.
 use mathlib.Core.Bool.{false}
 use mathlib.Core.Path.{sym}
-use borrow.Author.Rules.{rules}
 use lib.ListN.{get_or-eq_default}
 use Rattle.level.proofs.table.fixed_at.Goals as goal
 

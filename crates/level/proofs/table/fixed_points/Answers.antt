@@ -1,10 +1,8 @@
 -- Assumes nothing.
-use Prim.Native.Nat.{◌≤◌, ◌-◌}
 use mathlib.Core.Bool.{false}
-use mathlib.Core.List.{◌++◌, map}
-use mathlib.Core.Path.{◌≡◌, refl}
+use mathlib.Core.Path.{refl}
 use borrow.Author.Rules.{rules}
-use lib.ListN.{length, take, drop, replicate}
+use lib.ListN.{replicate}
 use Rattle.loops.proofs.Writes.{into_next, into-whole}
 use Rattle.level.specs.Fixed.{fixed_point, fixed_of}
 use Rattle.level.proofs.table.fixed_points.Goals as goal

@@ -1,11 +1,9 @@
-use Prim.Native.Nat.{◌≤◌, ◌-◌}
+use Prim.Native.Nat.{◌≤◌}
 use mathlib.Core.Bool.{false}
 use mathlib.Core.List.{◌++◌, map}
-use mathlib.Core.Path.{◌≡◌, refl}
-use borrow.Author.Rules.{rules}
+use mathlib.Core.Path.{◌≡◌}
 use lib.ListN.{length, take, drop, replicate}
-use Rattle.loops.proofs.Writes.{into_next, into-whole}
-use Rattle.level.specs.Fixed.{fixed_point, fixed_of}
+use Rattle.level.specs.Fixed.{fixed_point}
 use Rattle.level.proofs.table.fixed_points.Given as goal
 
 abbrev pub invariant-loop-p : goal.invariant-loop-p

@@ -1,5 +1,4 @@
 -- Arm by arm: what the arm found out about the value. Assumes nothing.
-use borrow.Author.Rules.{rules}
 use Rattle.measures.proofs.gauges.equation.Goals as goal
 
 pub returns-in-Distance : goal.returns-in-Distance

@@ -1,10 +1,8 @@
 -- Assumes nothing.
-use Prim.Native.Nat.{◌-◌, ◌≤◌, min}
-use mathlib.Core.List.{◌++◌, map}
-use mathlib.Core.Path.{◌≡◌, refl}
+use mathlib.Core.Path.{refl}
 use native.Mathlib.Omega.{arith}
 use borrow.Author.Rules.{rules}
-use lib.ListN.{length, take, drop, length-take}
+use lib.ListN.{take, length-take}
 use Rattle.measures.specs.Gauges.{gauge_of}
 use Rattle.measures.proofs.Head.{head-next, head_done}
 use Rattle.measures.proofs.gauges.gauge_all.Goals as goal

@@ -1,11 +1,8 @@
-use Prim.Native.Nat.{◌-◌, ◌≤◌, min}
+use Prim.Native.Nat.{◌≤◌, min}
 use mathlib.Core.List.{◌++◌, map}
-use mathlib.Core.Path.{◌≡◌, refl}
-use native.Mathlib.Omega.{arith}
-use borrow.Author.Rules.{rules}
-use lib.ListN.{length, take, drop, length-take}
+use mathlib.Core.Path.{◌≡◌}
+use lib.ListN.{length, take, drop}
 use Rattle.measures.specs.Gauges.{gauge_of}
-use Rattle.measures.proofs.Head.{head-next, head_done}
 use Rattle.measures.proofs.gauges.gauge_all.Given as goal
 
 abbrev pub invariant-loop-i : goal.invariant-loop-i

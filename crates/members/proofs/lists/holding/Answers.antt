@@ -1,9 +1,6 @@
 -- Assumes nothing.
-use Prim.Native.Nat.{◌-◌, ◌≤◌}
 use borrow.Author.Rules.{rules}
-use lib.ListN.{drop}
-use Rattle.groups.specs.Chains.{places_from}
-use Rattle.members.proofs.Heads.{Pushed, pushed_start, pushed-count}
+use Rattle.members.proofs.Heads.{pushed_start, pushed-count}
 use Rattle.members.proofs.Pushes.{holding-next, holding-done}
 use Rattle.members.proofs.lists.holding.Goals as goal
 

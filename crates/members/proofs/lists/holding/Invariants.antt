@@ -1,9 +1,7 @@
-use Prim.Native.Nat.{◌-◌, ◌≤◌}
-use borrow.Author.Rules.{rules}
+use Prim.Native.Nat.{◌≤◌}
 use lib.ListN.{drop}
 use Rattle.groups.specs.Chains.{places_from}
-use Rattle.members.proofs.Heads.{Pushed, pushed_start, pushed-count}
-use Rattle.members.proofs.Pushes.{holding-next, holding-done}
+use Rattle.members.proofs.Heads.{Pushed}
 use Rattle.members.proofs.lists.holding.Given as goal
 
 abbrev pub invariant-loop-i : goal.invariant-loop-i

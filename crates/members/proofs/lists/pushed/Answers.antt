@@ -1,5 +1,4 @@
 -- Assumes nothing.
-use borrow.Author.Rules.{rules}
 use borrow.Author.Tests.{not-true, not-false}
 use Rattle.members.specs.Lists.{pushed_of}
 use Rattle.members.proofs.lists.pushed.Goals as goal

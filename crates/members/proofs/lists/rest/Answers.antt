@@ -1,14 +1,12 @@
 -- Assumes nothing.
-use Prim.Native.Nat.{◌-◌, ◌≤◌}
 use mathlib.Core.Path.{◌≡◌, sym}
 use native.Mathlib.Omega.{arith}
 use borrow.Author.Rules.{rules}
-use lib.ListN.{length, drop, length-take}
+use lib.ListN.{length, length-take}
 use lib.Seq.{get_or-take}
-use Rattle.members.specs.Lists.{numbers_of, without_of}
-use Rattle.members.proofs.Heads.{Pushed, pushed_start, pushed-count}
+use Rattle.members.specs.Lists.{numbers_of}
+use Rattle.members.proofs.Heads.{pushed_start, pushed-count}
 use Rattle.members.proofs.Pushes.{without-next, without-done}
-use Rattle.members.proofs.Sized.{sized}
 use Rattle.members.proofs.lists.rest.Goals as goal
 
 pub loop-i-init : goal.loop-i-init

@@ -1,13 +1,7 @@
-use Prim.Native.Nat.{◌-◌, ◌≤◌}
-use mathlib.Core.Path.{◌≡◌, sym}
-use native.Mathlib.Omega.{arith}
-use borrow.Author.Rules.{rules}
-use lib.ListN.{length, drop, length-take}
-use lib.Seq.{get_or-take}
+use Prim.Native.Nat.{◌≤◌}
+use lib.ListN.{drop}
 use Rattle.members.specs.Lists.{numbers_of, without_of}
-use Rattle.members.proofs.Heads.{Pushed, pushed_start, pushed-count}
-use Rattle.members.proofs.Pushes.{without-next, without-done}
-use Rattle.members.proofs.Sized.{sized}
+use Rattle.members.proofs.Heads.{Pushed}
 use Rattle.members.proofs.lists.rest.Given as goal
 
 abbrev pub invariant-loop-i : goal.invariant-loop-i

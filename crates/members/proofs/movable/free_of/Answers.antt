@@ -1,16 +1,14 @@
 -- Assumes nothing.
-use Prim.Native.Nat.{◌*◌, ◌-◌, ◌≤◌}
 use mathlib.Core.Path.{◌≡◌, ap, sym, ◌∙◌}
 use native.Mathlib.Omega.{arith}
 use borrow.Author.Rules.{rules}
-use lib.ListN.{length, get_or, drop, length-take}
+use lib.ListN.{length, get_or, length-take}
 use lib.Seq.{get_or-take}
 use Rattle.members.specs.Lists.{numbers_of}
-use Rattle.members.specs.Movable.{points_at, free_from, nowhere}
-use Rattle.members.proofs.Heads.{PushedTwo, two-start, two-count}
+use Rattle.members.specs.Movable.{nowhere}
+use Rattle.members.proofs.Heads.{two-start, two-count}
 use Rattle.members.proofs.Knows.{known_is}
 use Rattle.members.proofs.Pushes.{free-next, free-done}
-use Rattle.members.proofs.Sized.{sized}
 use Rattle.members.proofs.movable.free_of.Goals as goal
 
 pub loop-k-init : goal.loop-k-init

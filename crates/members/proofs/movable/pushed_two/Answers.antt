@@ -1,5 +1,4 @@
 -- Assumes nothing.
-use borrow.Author.Rules.{rules}
 use borrow.Author.Tests.{not-true, not-false}
 use Rattle.members.specs.Movable.{pushed_two}
 use Rattle.members.proofs.movable.pushed_two.Goals as goal

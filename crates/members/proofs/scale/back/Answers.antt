@@ -1,5 +1,4 @@
 -- Arm by arm: what the arm found out about the state, and what the calls in it promise. Assumes nothing.
-use borrow.Author.Rules.{rules}
 use Rattle.members.proofs.scale.back.Goals as goal
 
 pub returns-in-Free : goal.returns-in-Free

@@ -1,4 +1,3 @@
-use borrow.Author.Rules.{rules}
 use Rattle.members.proofs.scale.moved_by.Goals as goal
 
 pub returns : goal.returns

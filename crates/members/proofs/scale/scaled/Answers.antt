@@ -1,5 +1,4 @@
 -- Assumes nothing.
-use borrow.Author.Rules.{rules}
 use Rattle.members.proofs.scale.scaled.Goals as goal
 
 pub returns : goal.returns

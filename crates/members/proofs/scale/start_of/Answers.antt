@@ -1,8 +1,6 @@
 -- Assumes nothing.
 use mathlib.Core.Path.{◌≡◌}
-use borrow.Author.Rules.{rules}
 use lib.ListN.{length}
-use Rattle.members.proofs.Sized.{sized}
 use Rattle.members.proofs.Starts.{started, too-short}
 use Rattle.members.proofs.scale.start_of.Goals as goal
 

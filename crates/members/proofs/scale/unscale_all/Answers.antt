@@ -1,15 +1,11 @@
 -- Assumes nothing.
-use Prim.Native.Nat.{◌-◌, ◌≤◌}
 use mathlib.Core.Path.{◌≡◌, refl, ◌∙◌}
 use native.Mathlib.Omega.{arith}
 use borrow.Author.Rules.{rules}
 use lib.ListN.{length}
-use Rattle.loops.specs.Turns.{up_to}
-use Rattle.members.specs.Lists.{numbers_of}
-use Rattle.members.specs.Scale.{unscale_at, unscale_of}
+use Rattle.members.specs.Scale.{unscale_of}
 use Rattle.members.proofs.Backs.{back-turn, back_done}
 use Rattle.members.proofs.Knows.{one-is}
-use Rattle.members.proofs.Sized.{sized}
 use Rattle.members.proofs.scale.unscale_all.Goals as goal
 
 pub loop-k-init : goal.loop-k-init

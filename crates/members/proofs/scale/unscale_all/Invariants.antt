@@ -1,14 +1,9 @@
-use Prim.Native.Nat.{◌-◌, ◌≤◌}
-use mathlib.Core.Path.{◌≡◌, refl, ◌∙◌}
-use native.Mathlib.Omega.{arith}
-use borrow.Author.Rules.{rules}
+use Prim.Native.Nat.{◌≤◌}
+use mathlib.Core.Path.{◌≡◌}
 use lib.ListN.{length}
 use Rattle.loops.specs.Turns.{up_to}
 use Rattle.members.specs.Lists.{numbers_of}
 use Rattle.members.specs.Scale.{unscale_at, unscale_of}
-use Rattle.members.proofs.Backs.{back-turn, back_done}
-use Rattle.members.proofs.Knows.{one-is}
-use Rattle.members.proofs.Sized.{sized}
 use Rattle.members.proofs.scale.unscale_all.Given as goal
 
 abbrev pub invariant-loop-k : goal.invariant-loop-k

@@ -1,11 +1,9 @@
 -- Assumes nothing.
 use mathlib.Core.Path.{◌≡◌, ap, ◌∙◌}
 use native.Mathlib.Omega.{arith}
-use borrow.Author.Rules.{rules}
 use lib.ListN.{length, replicate}
 use Rattle.groups.proofs.Counted.{taken}
 use Rattle.members.specs.Tables.{numbered_of}
-use Rattle.members.proofs.Sized.{sized}
 use Rattle.members.proofs.tables.columns.Goals as goal
 
 pub number-requires : goal.number-requires

@@ -1,5 +1,4 @@
 -- Past the end a store changes nothing. Assumes nothing.
-use borrow.Author.Rules.{rules}
 use mathlib.Core.Path.{sym}
 use lib.Seq.{set_out}
 use Rattle.members.proofs.tables.put.Goals as goal

@@ -1,6 +1,5 @@
 -- Assumes nothing.
 use mathlib.Core.Path.{ap, ◌∙◌}
-use borrow.Author.Rules.{rules}
 use borrow.Author.Tests.{lt-ltb, le-ltb, le-leb, lt-leb}
 use Rattle.floats.specs.Magnitude.{max_of}
 use Rattle.floats.specs.Ops.{1e-300}

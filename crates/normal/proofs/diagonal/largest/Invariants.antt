@@ -1,15 +1,7 @@
-use Prim.Native.Nat.{ℕ, ◌+◌, ◌-◌, ◌≤◌}
-use mathlib.Core.List.{List}
-use mathlib.Core.Path.{◌≡◌, refl}
-use native.Mathlib.Numerals.{lt-add-one}
-use borrow.Author.Rules.{rules}
-use lib.Ieee.{Float, nan}
-use lib.ListN.{get_or}
-use Rattle.floats.specs.Magnitude.{max_of}
+use Prim.Native.Nat.{◌≤◌}
+use mathlib.Core.Path.{◌≡◌}
 use Rattle.loops.specs.Turns.{up_to}
-use Rattle.loops.proofs.Turning.{up_to-next, up_to-done}
-use Rattle.normal.specs.Half.{triangle, max_in_half, half_largest_of}
-use Rattle.normal.proofs.Halves.{halves}
+use Rattle.normal.specs.Half.{max_in_half, half_largest_of}
 use Rattle.normal.proofs.diagonal.largest.Given as goal
 
 abbrev pub invariant-loop-i : goal.invariant-loop-i

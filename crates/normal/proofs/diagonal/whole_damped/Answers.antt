@@ -1,6 +1,5 @@
 -- Assumes nothing.
 use mathlib.Core.Path.{ap, ◌∙◌}
-use borrow.Author.Rules.{rules}
 use Rattle.normal.specs.Normal.{damped_of}
 use Rattle.normal.proofs.Mirrors.{any-start}
 use Rattle.normal.proofs.diagonal.whole_damped.Goals as goal

@@ -1,11 +1,10 @@
 -- Assumes nothing.
-use Prim.Native.Nat.{ℕ, ◌+◌, ◌-◌, ◌≤◌}
+use Prim.Native.Nat.{ℕ, ◌+◌}
 use mathlib.Core.List.{List}
 use mathlib.Core.Path.{◌≡◌, refl}
 use borrow.Author.Rules.{rules}
 use lib.Ieee.{Float}
-use lib.ListN.{length, set}
-use Rattle.loops.specs.Turns.{up_to}
+use lib.ListN.{set}
 use Rattle.loops.proofs.Turning.{up_to-next, up_to-done}
 use Rattle.normal.specs.Half.{triangle}
 use Rattle.normal.specs.Inside.{put_one, put_row}

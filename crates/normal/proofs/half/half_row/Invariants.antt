@@ -1,15 +1,9 @@
-use Prim.Native.Nat.{ℕ, ◌+◌, ◌-◌, ◌≤◌}
-use mathlib.Core.List.{List}
-use mathlib.Core.Path.{◌≡◌, refl}
-use borrow.Author.Rules.{rules}
-use lib.Ieee.{Float}
-use lib.ListN.{length, set}
+use Prim.Native.Nat.{◌+◌, ◌≤◌}
+use mathlib.Core.Path.{◌≡◌}
+use lib.ListN.{length}
 use Rattle.loops.specs.Turns.{up_to}
-use Rattle.loops.proofs.Turning.{up_to-next, up_to-done}
 use Rattle.normal.specs.Half.{triangle}
 use Rattle.normal.specs.Inside.{put_one, put_row}
-use Rattle.normal.specs.Normal.{rows_product}
-use Rattle.normal.proofs.Halves.{halves}
 use Rattle.normal.proofs.half.half_row.Given as goal
 
 abbrev pub invariant-loop-k : goal.invariant-loop-k

@@ -1,11 +1,7 @@
 -- Assumes nothing.
-use Prim.Native.Nat.{◌-◌, ◌≤◌}
-use mathlib.Core.Path.{◌≡◌, refl}
+use mathlib.Core.Path.{refl}
 use borrow.Author.Rules.{rules}
-use lib.ListN.{length}
-use Rattle.loops.specs.Turns.{up_to}
 use Rattle.loops.proofs.Turning.{up_to-next, up_to-done}
-use Rattle.normal.specs.Inside.{put_row}
 use Rattle.normal.proofs.half.half_rows.Goals as goal
 
 pub loop-i-init : goal.loop-i-init

@@ -1,7 +1,6 @@
 -- Assumes nothing.
 use Prim.Native.Nat.{◌*◌, ◌≤◌}
 use mathlib.Core.Path.{ap, ◌∙◌}
-use borrow.Author.Rules.{rules}
 use borrow.Author.Tests.{ltb-false, leb-true}
 use lib.Dec.{leb}
 use lib.ListN.{length}

@@ -1,16 +1,8 @@
-use Prim.Native.Nat.{ℕ, ◌+◌, ◌-◌, ◌*◌, ◌≤◌, ◌<◌}
-use mathlib.Core.List.{List}
-use mathlib.Core.Path.{◌≡◌, refl}
-use native.Mathlib.Omega.{arith}
-use borrow.Author.Rules.{rules}
-use lib.Ieee.{Float, nan}
-use lib.ListN.{length, get_or, set, length-set}
-use Rattle.loops.proofs.Cells.{cells, cell_in}
+use Prim.Native.Nat.{◌+◌, ◌≤◌}
+use mathlib.Core.Path.{◌≡◌}
+use lib.ListN.{length}
 use Rattle.loops.specs.Turns.{up_to}
-use Rattle.loops.proofs.Turning.{up_to-next, up_to-done}
 use Rattle.normal.specs.Half.{triangle, spread_one, spread_row}
-use Rattle.normal.specs.Normal.{set_both}
-use Rattle.normal.proofs.Halves.{halves}
 use Rattle.normal.proofs.spread.spread_row.Given as goal
 
 abbrev pub invariant-loop-k : goal.invariant-loop-k

@@ -1,12 +1,9 @@
 -- Assumes nothing.
-use Prim.Native.Nat.{◌-◌, ◌≤◌}
-use mathlib.Core.Path.{◌≡◌, refl}
+use mathlib.Core.Path.{refl}
 use borrow.Author.Rules.{rules}
-use lib.ListN.{length}
 use Rattle.loops.proofs.Cells.{cells}
-use Rattle.loops.specs.Turns.{up_to}
 use Rattle.loops.proofs.Turning.{up_to-next, up_to-done}
-use Rattle.normal.specs.Normal.{move_one, moved_of}
+use Rattle.normal.specs.Normal.{moved_of}
 use Rattle.normal.proofs.step.move_all.Goals as goal
 
 pub loop-c-init : goal.loop-c-init

@@ -1,6 +1,5 @@
 -- Assumes nothing.
 use mathlib.Core.Path.{sym}
-use borrow.Author.Rules.{rules}
 use lib.Seq.{set_out}
 use Rattle.normal.specs.Normal.{move_one}
 use Rattle.normal.proofs.step.move_one.Goals as goal

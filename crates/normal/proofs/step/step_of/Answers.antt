@@ -1,10 +1,8 @@
 -- Assumes nothing.
-use Prim.Native.Nat.{◌-◌, ◌≤◌}
-use mathlib.Core.Path.{◌≡◌, refl}
+use mathlib.Core.Path.{refl}
 use borrow.Author.Rules.{rules}
 use lib.Ieee.{neg, of_bits}
 use Rattle.loops.proofs.Cells.{cells}
-use Rattle.loops.specs.Turns.{up_to}
 use Rattle.loops.proofs.Turning.{up_to-next, up_to-done}
 use Rattle.normal.specs.Normal.{add_step, step_of}
 use Rattle.normal.proofs.step.step_of.Goals as goal

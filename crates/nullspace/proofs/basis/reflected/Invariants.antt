@@ -1,18 +1,8 @@
-use Prim.Native.Nat.{ℕ, ◌+◌, ◌-◌, ◌*◌, ◌≤◌}
-use mathlib.Core.List.{List}
-use mathlib.Core.Path.{◌≡◌, ◌∙◌}
-use native.Mathlib.Omega.{arith}
-use lib.ListN.{length, take, drop, set, replicate}
-use lib.Ieee.{Float}
-use borrow.Author.Rules.{rules}
-use Rattle.floats.specs.Ops.{zero⁺, one}
-use Rattle.solver.specs.Sums.{norm2_of}
+use Prim.Native.Nat.{◌≤◌}
+use mathlib.Core.Path.{◌≡◌}
+use lib.ListN.{length}
 use Rattle.loops.specs.Turns.{down_to}
-use Rattle.loops.proofs.Turning.{down_to-next, down_to-done}
-use Rattle.loops.proofs.Cells.{cell_row}
-use Rattle.nullspace.specs.Steps.{reflect_of}
 use Rattle.nullspace.specs.Layout.{laid_vector, reflect_by_row}
-use Rattle.nullspace.proofs.Built.{one-row, part_length}
 use Rattle.nullspace.proofs.basis.reflected.Given as goal
 
 abbrev pub invariant-loop-r : goal.invariant-loop-r

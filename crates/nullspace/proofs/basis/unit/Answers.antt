@@ -1,7 +1,6 @@
 use mathlib.Core.Path.{ap}
 use lib.ListN.{set}
 use Rattle.floats.specs.Ops.{one}
-use borrow.Author.Rules.{rules}
 use Rattle.nullspace.proofs.basis.unit.Goals as goal
 
 pub returns : goal.returns

@@ -1,4 +1,3 @@
-use borrow.Author.Rules.{rules}
 use Rattle.nullspace.proofs.basis.vector.Goals as goal
 
 pub returns : goal.returns

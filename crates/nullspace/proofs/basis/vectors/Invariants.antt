@@ -1,17 +1,8 @@
-use Prim.Native.Nat.{ℕ, ◌+◌, ◌-◌, ◌*◌, ◌≤◌}
-use mathlib.Core.List.{List, ◌++◌}
-use mathlib.Core.Path.{◌≡◌, refl, sym, ap, ◌∙◌}
-use native.Mathlib.Nat.{le_refl, le_antisymm, zero-mul}
-use native.Mathlib.Omega.{arith}
-use lib.ListN.{length, take, drop, take-append-drop}
-use lib.Seq.{drop-drop}
-use lib.Ieee.{Float}
-use borrow.Author.Rules.{rules}
+use Prim.Native.Nat.{◌-◌, ◌*◌, ◌≤◌}
+use mathlib.Core.Path.{◌≡◌}
+use lib.ListN.{length, take, drop}
 use Rattle.loops.specs.Turns.{up_to}
-use Rattle.loops.proofs.Turning.{up_to-next, up_to-done}
-use Rattle.loops.proofs.Cells.{cell_row}
-use Rattle.nullspace.specs.Layout.{add_vector, laid_basis, laid_vector}
-use Rattle.nullspace.proofs.Built.{part_length, take-built, drop-built}
+use Rattle.nullspace.specs.Layout.{add_vector, laid_basis}
 use Rattle.nullspace.proofs.basis.vectors.Given as goal
 
 abbrev pub invariant-loop-j : goal.invariant-loop-j

@@ -1,5 +1,5 @@
 -- Row k on is lent to the turn of k; what lies before it, the reflectors, stays. Assumes nothing.
-use Prim.Native.Nat.{ℕ, ◌+◌, ◌-◌, ◌*◌, ◌≤◌, min}
+use Prim.Native.Nat.{ℕ, ◌+◌, ◌-◌, ◌*◌, ◌≤◌}
 use mathlib.Core.Bool.{true, false}
 use mathlib.Core.List.{List, ◌++◌}
 use mathlib.Core.Path.{◌≡◌, refl, sym, ap, ◌∙◌}
@@ -10,7 +10,6 @@ use lib.Seq.{length-take-le, take_at}
 use lib.Ieee.{Float}
 use borrow.Author.Rules.{rules}
 use borrow.Author.Tests.{not-true, not-false}
-use Rattle.loops.specs.Turns.{while_to}
 use Rattle.loops.proofs.Turning.{while_to-next, while_to-stop, while_to-done}
 use Rattle.loops.proofs.Cells.{cell_row}
 use Rattle.loops.proofs.Parts.{tail-part, past-tail}

@@ -1,10 +1,8 @@
-use Prim.Native.Nat.{◌≤◌, ◌-◌}
-use mathlib.Core.Path.{◌≡◌, refl}
+use mathlib.Core.Path.{refl}
 use borrow.Author.Rules.{rules}
-use Rattle.loops.specs.Turns.{up_to}
 use Rattle.loops.proofs.Turning.{up_to-next, up_to-done}
 use Rattle.loops.proofs.Cells.{cells}
-use Rattle.nullspace.specs.Layout.{Measured, longer_row, longest_of}
+use Rattle.nullspace.specs.Layout.{longest_of}
 use Rattle.nullspace.proofs.qr.longest.Goals as goal
 
 pub norm_from-requires : goal.norm_from-requires

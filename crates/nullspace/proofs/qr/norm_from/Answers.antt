@@ -2,7 +2,6 @@ use Prim.Native.Nat.{ℕ, ◌+◌, ◌-◌}
 use mathlib.Core.Path.{◌≡◌}
 use native.Mathlib.Omega.{arith}
 use Rattle.nullspace.specs.Layout.{norm_at}
-use borrow.Author.Rules.{rules}
 use Rattle.nullspace.proofs.qr.norm_from.Goals as goal
 
 left : (n k s : ℕ) → s + n - (s + k) ≡ n - k

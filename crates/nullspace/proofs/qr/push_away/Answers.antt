@@ -1,5 +1,4 @@
 use Rattle.nullspace.specs.Steps.{away}
-use borrow.Author.Rules.{rules}
 use Rattle.nullspace.proofs.qr.push_away.Goals as goal
 
 pub returns : goal.returns

@@ -1,9 +1,6 @@
-use Prim.Native.Nat.{◌≤◌, ◌-◌}
-use mathlib.Core.Path.{◌≡◌, refl}
-use borrow.Author.Rules.{rules}
+use Prim.Native.Nat.{◌≤◌}
+use mathlib.Core.Path.{◌≡◌}
 use Rattle.loops.specs.Turns.{up_to}
-use Rattle.loops.proofs.Turning.{up_to-next, up_to-done}
-use lib.Ieee.{neg, of_bits}
 use Rattle.nullspace.specs.Layout.{add_product_at, dot_at}
 use Rattle.nullspace.proofs.reflect.dot_row.Given as goal
 

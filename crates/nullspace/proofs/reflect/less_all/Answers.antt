@@ -2,7 +2,6 @@ use mathlib.Core.Path.{refl, ◌∙◌}
 use Rattle.loops.proofs.Picks.{pick_yes, pick_no}
 use Rattle.nullspace.specs.Steps.{less_all}
 use Rattle.nullspace.proofs.Zips.{zip-less}
-use borrow.Author.Rules.{rules}
 use Rattle.nullspace.proofs.reflect.less_all.Goals as goal
 
 pub returns-then-f : goal.returns-then-f

@@ -1,7 +1,6 @@
 use mathlib.Core.Path.{refl}
 use Rattle.loops.proofs.Picks.{pick_yes, pick_no}
 use Rattle.nullspace.specs.Layout.{less_row_at}
-use borrow.Author.Rules.{rules}
 use Rattle.nullspace.proofs.reflect.less_row.Goals as goal
 
 pub returns-then-f : goal.returns-then-f

@@ -1,5 +1,4 @@
 use Rattle.nullspace.specs.Steps.{reflect_of}
-use borrow.Author.Rules.{rules}
 use Rattle.nullspace.proofs.reflect.reflect.Goals as goal
 
 pub returns : goal.returns

@@ -1,5 +1,4 @@
 use Rattle.nullspace.specs.Layout.{reflect_at}
-use borrow.Author.Rules.{rules}
 use Rattle.nullspace.proofs.reflect.reflect_row.Goals as goal
 
 pub returns : goal.returns

@@ -1,11 +1,6 @@
-use native.Mathlib.Omega.{arith}
-use Rattle.loops.proofs.Cells.{cell_row}
-use Prim.Native.Nat.{◌-◌}
-use mathlib.Core.Path.{◌≡◌, refl}
+use mathlib.Core.Path.{◌≡◌}
 use lib.ListN.{length}
-use borrow.Author.Rules.{rules}
 use Rattle.loops.specs.Turns.{up_to}
-use Rattle.loops.proofs.Turning.{up_to-next, up_to-done}
 use Rattle.nullspace.specs.Layout.{reflect_at, reflected_by}
 use Rattle.nullspace.proofs.reflect.reflect_rows.Given as goal
 

@@ -1,9 +1,7 @@
 use Rattle.loops.proofs.Writes.{into_next, into-whole}
-use mathlib.Core.List.{◌++◌, map, map-id}
-use mathlib.Core.Path.{◌≡◌, refl, ◌∙◌}
+use mathlib.Core.List.{map-id}
+use mathlib.Core.Path.{refl, ◌∙◌}
 use lib.Ieee.{Float, nan}
-use Prim.Native.Nat.{◌≤◌, ◌-◌}
-use lib.ListN.{length, take, drop}
 use borrow.Author.Rules.{rules}
 use Rattle.nullspace.proofs.units.copy.Goals as goal
 

@@ -1,10 +1,8 @@
-use Rattle.loops.proofs.Writes.{into_next, into-whole}
-use mathlib.Core.List.{◌++◌, map, map-id}
-use mathlib.Core.Path.{◌≡◌, refl, ◌∙◌}
-use lib.Ieee.{Float, nan}
-use Prim.Native.Nat.{◌≤◌, ◌-◌}
+use mathlib.Core.List.{◌++◌, map}
+use mathlib.Core.Path.{◌≡◌}
+use lib.Ieee.{Float}
+use Prim.Native.Nat.{◌≤◌}
 use lib.ListN.{length, take, drop}
-use borrow.Author.Rules.{rules}
 use Rattle.nullspace.proofs.units.copy.Given as goal
 
 abbrev pub invariant-loop-i : goal.invariant-loop-i

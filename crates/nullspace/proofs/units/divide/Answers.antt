@@ -1,8 +1,5 @@
 use Rattle.loops.proofs.Writes.{into_next, into-whole}
-use Prim.Native.Nat.{◌≤◌, ◌-◌}
-use mathlib.Core.List.{◌++◌, map}
-use mathlib.Core.Path.{◌≡◌, refl}
-use lib.ListN.{length, take, drop}
+use mathlib.Core.Path.{refl}
 use lib.Ieee.{nan}
 use borrow.Author.Rules.{rules}
 use Rattle.floats.specs.Ops.{◌⊘◌}

@@ -1,10 +1,7 @@
-use Rattle.loops.proofs.Writes.{into_next, into-whole}
-use Prim.Native.Nat.{◌≤◌, ◌-◌}
+use Prim.Native.Nat.{◌≤◌}
 use mathlib.Core.List.{◌++◌, map}
-use mathlib.Core.Path.{◌≡◌, refl}
+use mathlib.Core.Path.{◌≡◌}
 use lib.ListN.{length, take, drop}
-use lib.Ieee.{nan}
-use borrow.Author.Rules.{rules}
 use Rattle.floats.specs.Ops.{◌⊘◌}
 use Rattle.nullspace.proofs.units.divide.Given as goal
 

@@ -1,6 +1,5 @@
 use Rattle.loops.proofs.Picks.{pick_yes, pick_no}
 use Rattle.nullspace.specs.Steps.{scaled_by}
-use borrow.Author.Rules.{rules}
 use Rattle.nullspace.proofs.units.scale.Goals as goal
 
 pub returns-then-len : goal.returns-then-len

@@ -1,5 +1,4 @@
 use Rattle.nullspace.specs.Steps.{unit_of}
-use borrow.Author.Rules.{rules}
 use Rattle.nullspace.proofs.units.unit_row.Goals as goal
 
 pub returns : goal.returns

@@ -1,6 +1,5 @@
 -- Assumes nothing.
 use Rattle.phrases.specs.Equations.{equation_at}
-use borrow.Author.Rules.{rules}
 use Rattle.phrases.proofs.equations.equation.Goals as goal
 
 pub returns : goal.returns

@@ -1,7 +1,6 @@
 -- Assumes nothing.
 use mathlib.Core.Path.{sym}
 use Rattle.phrases.specs.Fields.{axis_at}
-use borrow.Author.Rules.{rules}
 use Rattle.phrases.proofs.fields.axis.Goals as goal
 
 pub returns-then-x : goal.returns-then-x

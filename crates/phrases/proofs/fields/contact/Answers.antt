@@ -1,7 +1,6 @@
 -- Assumes nothing.
 use mathlib.Core.Path.{sym}
 use Rattle.phrases.specs.Fields.{contact_at}
-use borrow.Author.Rules.{rules}
 use Rattle.phrases.proofs.fields.contact.Goals as goal
 
 pub returns-then-outside : goal.returns-then-outside

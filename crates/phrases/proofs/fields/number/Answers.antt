@@ -1,6 +1,5 @@
 -- Assumes nothing.
 use Rattle.phrases.specs.Fields.{number_at}
-use borrow.Author.Rules.{rules}
 use Rattle.phrases.proofs.fields.number.Goals as goal
 
 pub returns : goal.returns

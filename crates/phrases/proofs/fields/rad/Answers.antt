@@ -10,7 +10,6 @@ use Rattle.spelling.specs.declared.Cursor.{Cursor}
 use Rattle.spelling.specs.declared.WholeRead.{WholeRead}
 use Rattle.phrases.specs.Kinds.{word_at}
 use Rattle.phrases.specs.Fields.{number_at, rad_at}
-use borrow.Author.Rules.{rules}
 use Rattle.phrases.proofs.fields.rad.Goals as goal
 
 by-point : (s : List ℕ) (c w : Cursor) (p : WholeRead) → w ≡ word_at s c (44 ∷ 112 ∷ []) → w.ok ≡ true → p ≡ number_at s w

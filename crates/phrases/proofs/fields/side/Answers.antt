@@ -1,7 +1,6 @@
 -- Assumes nothing.
 use mathlib.Core.Path.{sym}
 use Rattle.phrases.specs.Fields.{side_at}
-use borrow.Author.Rules.{rules}
 use Rattle.phrases.proofs.fields.side.Goals as goal
 
 pub returns-then-plus : goal.returns-then-plus

@@ -1,6 +1,5 @@
 -- Assumes nothing.
 use Rattle.phrases.specs.Fields.{value_at}
-use borrow.Author.Rules.{rules}
 use Rattle.phrases.proofs.fields.value.Goals as goal
 
 pub returns : goal.returns

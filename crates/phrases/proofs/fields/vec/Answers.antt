@@ -1,6 +1,5 @@
 -- Assumes nothing.
 use Rattle.phrases.specs.Fields.{vec_at}
-use borrow.Author.Rules.{rules}
 use Rattle.phrases.proofs.fields.vec.Goals as goal
 
 pub returns : goal.returns

@@ -1,6 +1,5 @@
 -- Assumes nothing.
 use Rattle.phrases.specs.Measures.{gauged_at}
-use borrow.Author.Rules.{rules}
 use Rattle.phrases.proofs.gauges.gauged.Goals as goal
 
 pub returns : goal.returns

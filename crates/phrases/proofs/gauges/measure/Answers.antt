@@ -3,7 +3,6 @@ use mathlib.Core.Bool.{true, false}
 use mathlib.Core.List.{List}
 use mathlib.Core.Path.{◌≡◌, sym, ap, ◌∙◌}
 use Prim.Native.Nat.{ℕ}
-use borrow.Author.Rules.{rules}
 use Rattle.loops.proofs.Picks.{pick_yes, pick_no}
 use Rattle.sketch.specs.Kinds.{kind_of}
 use Rattle.sketch.specs.declared.Gauge.{Gauge}

@@ -6,7 +6,6 @@ use Rattle.spelling.specs.declared.Cursor.{Cursor}
 use Rattle.phrases.specs.Kinds.{or_named, trying}
 use Rattle.sketch.specs.declared.Kind.{Kind}
 use Rattle.phrases.specs.declared.KindRead.{KindRead}
-use borrow.Author.Rules.{rules}
 use Rattle.phrases.proofs.kinds.kind.Goals as goal
 
 also : (s : List ℕ) (c : Cursor) (w : List ℕ) (k : Kind) (f g r : KindRead) → r ≡ or_named s c f w k → f ≡ g → r ≡ or_named s c g w k

@@ -1,6 +1,5 @@
 -- Assumes nothing.
 use Rattle.phrases.specs.Kinds.{or_named}
-use borrow.Author.Rules.{rules}
 use Rattle.phrases.proofs.kinds.or_named.Goals as goal
 
 pub returns-then-found : goal.returns-then-found

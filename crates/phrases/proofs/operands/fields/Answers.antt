@@ -1,5 +1,4 @@
 -- Assumes nothing.
-use borrow.Author.Rules.{rules}
 use Rattle.phrases.proofs.operands.fields.Goals as goal
 
 pub returns-in-None : goal.returns-in-None

@@ -1,6 +1,5 @@
 -- Assumes nothing.
 use Rattle.phrases.specs.Fields.{operand_at}
-use borrow.Author.Rules.{rules}
 use Rattle.phrases.proofs.operands.operand.Goals as goal
 
 pub returns-in-Point : goal.returns-in-Point

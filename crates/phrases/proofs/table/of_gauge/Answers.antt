@@ -1,5 +1,4 @@
 -- Arm by arm: what the arm found out about the kind. Assumes nothing.
-use borrow.Author.Rules.{rules}
 use Rattle.phrases.proofs.table.of_gauge.Goals as goal
 
 pub returns-in-Distance : goal.returns-in-Distance

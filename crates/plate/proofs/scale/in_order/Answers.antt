@@ -1,11 +1,8 @@
 -- Assumes nothing.
-use Prim.Native.Nat.{◌≤◌, ◌-◌}
-use mathlib.Core.Path.{◌≡◌, refl}
+use mathlib.Core.Path.{refl}
 use borrow.Author.Rules.{rules}
-use lib.ListN.{length}
-use Rattle.loops.specs.Turns.{up_to}
 use Rattle.loops.proofs.Turning.{up_to-next, up_to-done}
-use Rattle.plate.specs.Scale.{self_at, in_order}
+use Rattle.plate.specs.Scale.{self_at}
 use Rattle.plate.proofs.scale.in_order.Goals as goal
 
 pub loop-p-init : goal.loop-p-init

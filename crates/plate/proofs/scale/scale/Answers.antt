@@ -1,5 +1,4 @@
 -- What the calls promise, from the last to the first. Assumes nothing.
-use borrow.Author.Rules.{rules}
 use Rattle.plate.specs.Scale.{scale_at}
 use Rattle.plate.proofs.scale.scale.Goals as goal
 

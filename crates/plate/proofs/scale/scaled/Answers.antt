@@ -1,11 +1,8 @@
 -- Assumes nothing.
-use Prim.Native.Nat.{◌≤◌, ◌-◌, min}
-use mathlib.Core.Path.{◌≡◌, refl}
+use mathlib.Core.Path.{refl}
 use borrow.Author.Rules.{rules}
-use lib.ListN.{length}
-use Rattle.loops.specs.Turns.{up_to}
 use Rattle.loops.proofs.Turning.{up_to-next, up_to-done}
-use Rattle.plate.specs.Scale.{scale_at, all_scaled_of}
+use Rattle.plate.specs.Scale.{all_scaled_of}
 use Rattle.plate.proofs.scale.scaled.Goals as goal
 
 pub loop-p-init : goal.loop-p-init

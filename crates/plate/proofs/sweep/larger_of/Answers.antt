@@ -1,5 +1,4 @@
 -- By how many rows there are. Assumes nothing.
-use borrow.Author.Rules.{rules}
 use borrow.Author.Tests.{eq-eqb, ne_eqb}
 use Rattle.plate.specs.Inside.{larger_held}
 use Rattle.plate.proofs.sweep.larger_of.Goals as goal

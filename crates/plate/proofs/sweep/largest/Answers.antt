@@ -1,18 +1,16 @@
 -- What the equations that are left add gives the whole. Assumes nothing.
-use Prim.Native.Nat.{◌≤◌, ◌-◌, min}
 use mathlib.Core.List.{map}
 use mathlib.Core.Path.{◌≡◌, refl, ap, ◌∙◌}
 use native.Mathlib.Omega.{arith}
 use borrow.Author.Rules.{rules}
-use lib.ListN.{length, take, drop, length-take}
+use lib.ListN.{length, length-take}
 use Rattle.floats.specs.Largest.{larger_abs}
-use Rattle.floats.specs.Ops.{zero⁺}
 use Rattle.loops.specs.Turns.{fold}
 use Rattle.rows.proofs.Bounded.{bounded}
 use Rattle.rows.proofs.Found.{found_rows}
 use Rattle.rows.specs.Located.{at_of}
 use Rattle.plate.specs.Worst.{residual_of}
-use Rattle.plate.proofs.Sweeping.{each_row, with_equation, equation-next, equations-done}
+use Rattle.plate.proofs.Sweeping.{each_row, equation-next, equations-done}
 use Rattle.plate.proofs.sweep.largest.Goals as goal
 
 pub loop-i-init : goal.loop-i-init

@@ -1,6 +1,5 @@
 use Rattle.loops.proofs.Parts.{front}
 use Rattle.replay.proofs.Reply.{compared, too-long}
-use borrow.Author.Rules.{rules}
 use Rattle.replay.proofs.judge.is_reply.Goals as goal
 
 pub slice_bounds-same-end : goal.slice_bounds-same-end

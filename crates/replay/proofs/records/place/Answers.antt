@@ -1,7 +1,6 @@
 use Prim.Native.Nat.{◌+◌}
 use native.Mathlib.Omega.{arith}
 use Rattle.replay.proofs.Laws.{room, place-yes, place-no}
-use borrow.Author.Rules.{rules}
 use Rattle.replay.proofs.records.place.Goals as goal
 
 pub overflow_add-result : goal.overflow_add-result

@@ -1,5 +1,4 @@
 use Rattle.replay.specs.Records.{record_at}
-use borrow.Author.Rules.{rules}
 use Rattle.replay.proofs.records.record_at.Goals as goal
 
 pub returns : goal.returns

@@ -1,5 +1,4 @@
 use Rattle.replay.proofs.Laws.{counted_same, counted-differ}
-use borrow.Author.Rules.{rules}
 use Rattle.replay.proofs.tally.counted.Goals as goal
 
 pub returns-then-same : goal.returns-then-same

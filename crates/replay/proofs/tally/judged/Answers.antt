@@ -1,5 +1,4 @@
 use Rattle.replay.proofs.Laws.{judged-record}
-use borrow.Author.Rules.{rules}
 use Rattle.replay.proofs.tally.judged.Goals as goal
 
 pub returns : goal.returns

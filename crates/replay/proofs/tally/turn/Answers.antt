@@ -1,5 +1,4 @@
 use Rattle.replay.proofs.Laws.{found_within, turn-found, turn-none}
-use borrow.Author.Rules.{rules}
 use Rattle.replay.proofs.tally.turn.Goals as goal
 
 pub judged-requires : goal.judged-requires

@@ -1,5 +1,4 @@
 -- Assumes nothing.
-use borrow.Author.Rules.{rules}
 use mathlib.Core.Bool.{false, not}
 use mathlib.Core.Path.{◌≡◌, sym, subst}
 use lib.Dec.{T}

@@ -1,5 +1,4 @@
 -- Assumes nothing.
-use borrow.Author.Rules.{rules}
 use borrow.Author.Tests.{lt-ltb, le-ltb}
 use Rattle.spelling.specs.Printed.{hex_digit}
 use Rattle.reply.proofs.figures.hex.Goals as goal

@@ -1,5 +1,4 @@
 -- Assumes nothing.
-use borrow.Author.Rules.{rules}
 use Rattle.reply.specs.Figures.{float}
 use Rattle.reply.proofs.Laws.{last}
 use Rattle.reply.proofs.figures.put_float.Goals as goal

@@ -1,5 +1,4 @@
 -- Assumes nothing.
-use borrow.Author.Rules.{rules}
 use Rattle.reply.specs.Figures.{whole}
 use Rattle.reply.proofs.Laws.{last}
 use Rattle.reply.proofs.figures.put_whole.Goals as goal

@@ -1,5 +1,4 @@
 -- Assumes nothing.
-use borrow.Author.Rules.{rules}
 use borrow.Author.Tests.{lt-ltb, le-ltb}
 use Rattle.reply.specs.Laid.{next_byte}
 use Rattle.reply.proofs.laying.put.Goals as goal

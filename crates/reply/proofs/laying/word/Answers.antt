@@ -1,10 +1,8 @@
 -- What is left of the word, laid, gives the whole. Assumes nothing.
-use Prim.Native.Nat.{◌≤◌, ◌-◌}
-use mathlib.Core.Path.{◌≡◌, refl}
+use mathlib.Core.Path.{refl}
 use borrow.Author.Rules.{rules}
-use lib.ListN.{length, drop}
 use Rattle.loops.proofs.Turning.{fold_next, fold_done}
-use Rattle.reply.specs.Laid.{laid, next_byte, laying}
+use Rattle.reply.specs.Laid.{next_byte}
 use Rattle.reply.proofs.laying.word.Goals as goal
 
 pub loop-i-init : goal.loop-i-init

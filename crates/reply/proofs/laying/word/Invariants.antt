@@ -1,9 +1,7 @@
-use Prim.Native.Nat.{◌≤◌, ◌-◌}
-use mathlib.Core.Path.{◌≡◌, refl}
-use borrow.Author.Rules.{rules}
+use Prim.Native.Nat.{◌≤◌}
+use mathlib.Core.Path.{◌≡◌}
 use lib.ListN.{length, drop}
-use Rattle.loops.proofs.Turning.{fold_next, fold_done}
-use Rattle.reply.specs.Laid.{laid, next_byte, laying}
+use Rattle.reply.specs.Laid.{laid, laying}
 use Rattle.reply.proofs.laying.word.Given as goal
 
 abbrev pub invariant-loop-i : goal.invariant-loop-i

@@ -1,5 +1,4 @@
 -- Assumes nothing.
-use borrow.Author.Rules.{rules}
 use Rattle.reply.specs.Lines.{failed_line}
 use Rattle.reply.proofs.Laws.{then}
 use Rattle.reply.proofs.lines.failed_line.Goals as goal

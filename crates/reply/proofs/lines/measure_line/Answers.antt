@@ -1,5 +1,4 @@
 -- Assumes nothing.
-use borrow.Author.Rules.{rules}
 use Rattle.reply.specs.Lines.{measure_line}
 use Rattle.reply.proofs.Laws.{then}
 use Rattle.reply.proofs.lines.measure_line.Goals as goal

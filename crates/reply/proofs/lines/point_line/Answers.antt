@@ -1,5 +1,4 @@
 -- Assumes nothing.
-use borrow.Author.Rules.{rules}
 use Rattle.reply.specs.Lines.{point_line}
 use Rattle.reply.proofs.Laws.{then}
 use Rattle.reply.proofs.lines.point_line.Goals as goal

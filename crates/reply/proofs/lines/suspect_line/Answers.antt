@@ -1,5 +1,4 @@
 -- Assumes nothing.
-use borrow.Author.Rules.{rules}
 use Rattle.loops.specs.Turns.{fold}
 use Rattle.reply.specs.Lines.{suspect_line}
 use Rattle.reply.proofs.Laws.{then}

@@ -1,5 +1,4 @@
 -- Assumes nothing.
-use borrow.Author.Rules.{rules}
 use Rattle.reply.specs.Lines.{total_lines}
 use Rattle.reply.proofs.Laws.{then}
 use Rattle.reply.proofs.lines.total_lines.Goals as goal

@@ -1,5 +1,4 @@
 -- Assumes nothing.
-use borrow.Author.Rules.{rules}
 use Rattle.reply.specs.Reply.{failed_lines}
 use Rattle.reply.proofs.Laws.{then}
 use Rattle.reply.proofs.parts.failed_lines.Goals as goal

@@ -1,5 +1,4 @@
 -- Assumes nothing.
-use borrow.Author.Rules.{rules}
 use Rattle.reply.specs.Reply.{fitted_lines}
 use Rattle.reply.proofs.Laws.{then}
 use Rattle.reply.proofs.parts.fitted_lines.Goals as goal

@@ -1,13 +1,8 @@
 -- The lines so far are laid. Assumes nothing.
-use Prim.Native.Nat.{◌≤◌, ◌-◌}
-use mathlib.Core.Path.{◌≡◌, refl}
+use mathlib.Core.Path.{refl}
 use borrow.Author.Rules.{rules}
-use lib.ListN.{length, get_or}
 use native.Mathlib.Omega.{arith}
-use Rattle.answer.specs.Endings.{blank_group}
-use Rattle.reply.specs.Laid.{laid, laying}
-use Rattle.reply.specs.Lines.{group_line}
-use Rattle.reply.specs.Reply.{rising, group_lines}
+use Rattle.reply.specs.Reply.{group_lines}
 use Rattle.reply.proofs.Laws.{rising-start, rising-next, rising-done}
 use Rattle.reply.proofs.parts.group_lines.Goals as goal
 

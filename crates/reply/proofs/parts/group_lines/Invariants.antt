@@ -1,13 +1,10 @@
-use Prim.Native.Nat.{◌≤◌, ◌-◌}
-use mathlib.Core.Path.{◌≡◌, refl}
-use borrow.Author.Rules.{rules}
+use Prim.Native.Nat.{◌≤◌}
+use mathlib.Core.Path.{◌≡◌}
 use lib.ListN.{length, get_or}
-use native.Mathlib.Omega.{arith}
 use Rattle.answer.specs.Endings.{blank_group}
 use Rattle.reply.specs.Laid.{laid, laying}
 use Rattle.reply.specs.Lines.{group_line}
-use Rattle.reply.specs.Reply.{rising, group_lines}
-use Rattle.reply.proofs.Laws.{rising-start, rising-next, rising-done}
+use Rattle.reply.specs.Reply.{rising}
 use Rattle.reply.proofs.parts.group_lines.Given as goal
 
 abbrev pub invariant-loop-i : goal.invariant-loop-i

@@ -1,11 +1,9 @@
-use Prim.Native.Nat.{◌≤◌, ◌-◌}
-use mathlib.Core.Path.{◌≡◌, refl}
-use borrow.Author.Rules.{rules}
+use Prim.Native.Nat.{◌≤◌}
+use mathlib.Core.Path.{◌≡◌}
 use lib.ListN.{length}
 use Rattle.reply.specs.Laid.{laid, laying}
 use Rattle.reply.specs.Lines.{point_line}
 use Rattle.reply.specs.Reply.{rising}
-use Rattle.reply.proofs.Laws.{rising-start, rising-next, rising-done}
 use Rattle.reply.proofs.parts.point_lines.Given as goal
 
 abbrev pub invariant-loop-i : goal.invariant-loop-i

@@ -1,5 +1,4 @@
 -- Assumes nothing.
-use borrow.Author.Rules.{rules}
 use native.Mathlib.Omega.{arith}
 use Rattle.reply.specs.Reply.{reply_of}
 use Rattle.reply.proofs.Laws.{then}

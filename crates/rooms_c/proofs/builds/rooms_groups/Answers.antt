@@ -1,5 +1,4 @@
 use Rattle.rooms_c.proofs.Joined.{grouped}
-use borrow.Author.Rules.{rules}
 use Rattle.rooms_c.proofs.builds.rooms_groups.Goals as goal
 
 pub returns : goal.returns

@@ -1,5 +1,4 @@
 -- Assumes nothing.
-use borrow.Author.Rules.{rules}
 use Rattle.rooms_c.proofs.builds.rooms_measures.Goals as goal
 
 pub returns : goal.returns

@@ -1,5 +1,4 @@
 use Rattle.rooms_c.proofs.Joined.{read-solved, refused-solved}
-use borrow.Author.Rules.{rules}
 use Rattle.rooms_c.proofs.builds.rooms_solve.Goals as goal
 
 pub returns-in-Read : goal.returns-in-Read

@@ -1,5 +1,4 @@
 use Rattle.rooms_c.proofs.Joined.{build-solved}
-use borrow.Author.Rules.{rules}
 use Rattle.rooms_c.proofs.builds.solved.Goals as goal
 
 pub returns : goal.returns

@@ -7,7 +7,6 @@ use mir.Val.{Fits}
 use Rattle.solver.specs.declared.Elimination.{Elimination}
 use Rattle.solver.specs.declared.Elimination.TheVariants.{NoPivot}
 use Rattle.rooms_c.specs.Code.{Named}
-use borrow.Author.Rules.{rules}
 use Rattle.rooms_c.proofs.matrices.code.Goals as goal
 
 column_fits : (e : Elimination) (column : ℕ) → e ≡ NoPivot column → Named e → Fits w64 (256 + column)

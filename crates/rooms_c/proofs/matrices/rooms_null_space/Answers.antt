@@ -1,6 +1,5 @@
 use mathlib.Core.Path.{ap, ◌∙◌}
 use Rattle.rooms_c.specs.Code.{rank_code}
-use borrow.Author.Rules.{rules}
 use Rattle.rooms_c.proofs.matrices.rooms_null_space.Goals as goal
 
 pub returns : goal.returns

@@ -1,7 +1,6 @@
 use mathlib.Core.Path.{sym, ap, subst, ◌∙◌}
 use Rattle.rooms_c.specs.Code.{Named, solved_code}
 use Rattle.rooms_c.proofs.Named.{named}
-use borrow.Author.Rules.{rules}
 use Rattle.rooms_c.proofs.matrices.rooms_solve_dense.Goals as goal
 
 pub code-requires : goal.code-requires

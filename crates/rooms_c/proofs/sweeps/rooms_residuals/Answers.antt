@@ -1,10 +1,6 @@
-use Prim.Native.Nat.{◌≤◌, ◌-◌}
-use mathlib.Core.Path.{◌≡◌, refl}
+use mathlib.Core.Path.{refl}
 use borrow.Author.Rules.{rules}
-use lib.ListN.{length}
-use Rattle.loops.specs.Turns.{up_to}
 use Rattle.loops.proofs.Turning.{up_to-next, up_to-done}
-use Rattle.rows.specs.Column.{laid}
 use Rattle.rooms_c.specs.Sweeps.{column_again}
 use Rattle.rooms_c.proofs.sweeps.rooms_residuals.Goals as goal
 

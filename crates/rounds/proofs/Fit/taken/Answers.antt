@@ -1,4 +1,3 @@
-use borrow.Author.Rules.{rules}
 use Rattle.rounds.proofs.Fit.taken.Goals as goal
 
 pub returns : goal.returns

@@ -1,6 +1,5 @@
 use mathlib.Core.Path.{refl}
 use lib.ListN.{length}
-use borrow.Author.Rules.{rules}
 use Rattle.rounds.proofs.Trials.{eliminated-is}
 use Rattle.rounds.proofs.attempt.eliminated.Goals as goal
 

@@ -1,4 +1,3 @@
-use borrow.Author.Rules.{rules}
 use Rattle.rounds.proofs.Turn.{judge-taken, judge-left}
 use Rattle.rounds.proofs.attempt.judge.Goals as goal
 

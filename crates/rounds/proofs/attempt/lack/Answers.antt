@@ -1,5 +1,4 @@
 -- Assumes nothing.
-use borrow.Author.Rules.{rules}
 use Rattle.rounds.proofs.attempt.lack.Goals as goal
 
 pub returns-in-NoPivot : goal.returns-in-NoPivot

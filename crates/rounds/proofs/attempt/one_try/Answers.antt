@@ -1,9 +1,8 @@
 use mathlib.Core.Path.{ap, ◌∙◌}
 use lib.ListN.{length}
-use borrow.Author.Rules.{rules}
 use Rattle.solver.specs.Reasons.{some}
 use Rattle.rounds.specs.Problem.{row_count, problem_of, state_of}
-use Rattle.rounds.specs.Solve.{Problem, judged}
+use Rattle.rounds.specs.Solve.{judged}
 use Rattle.rounds.proofs.Trials.{trial-made}
 use Rattle.rounds.proofs.attempt.one_try.Goals as goal
 

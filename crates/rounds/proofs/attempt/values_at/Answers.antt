@@ -1,4 +1,3 @@
-use borrow.Author.Rules.{rules}
 use Rattle.rounds.proofs.Turn.{values-found}
 use Rattle.rounds.proofs.attempt.values_at.Goals as goal
 

@@ -1,4 +1,3 @@
-use borrow.Author.Rules.{rules}
 use Rattle.rounds.proofs.Begins.{begun}
 use Rattle.rounds.proofs.opening.first_values.Goals as goal
 

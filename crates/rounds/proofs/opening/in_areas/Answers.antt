@@ -1,13 +1,11 @@
-use Prim.Native.Nat.{ℕ, ◌+◌, ◌*◌, ◌/◌, ◌≤◌}
-use mathlib.Core.List.{List, ◌++◌}
+use Prim.Native.Nat.{◌+◌, ◌*◌, ◌/◌, ◌≤◌}
+use mathlib.Core.List.{◌++◌}
 use mathlib.Core.Path.{◌≡◌, refl, sym, ◌∙◌}
-use lib.Ieee.{Float}
 use lib.ListN.{length, take, drop}
 use native.Mathlib.Omega.{arith}
 use lib.Seq.{length_front}
 use Rattle.floats.specs.Ops.{zero⁺}
 use Rattle.groups.proofs.Counted.{taken}
-use Rattle.members.proofs.Sized.{sized}
 use Rattle.members.specs.Lists.{numbers_of}
 use Rattle.members.specs.Movable.{indices_of}
 use Rattle.loops.proofs.Parts.{front, still-fits, refilled}

@@ -1,10 +1,6 @@
-use mathlib.Core.List.{List}
 use native.Mathlib.Nat.{le_refl}
-use lib.Ieee.{Float}
 use lib.ListN.{length}
-use borrow.Author.Rules.{rules}
 use Rattle.rounds.specs.Problem.{row_count, jacobian_at, problem_of}
-use Rattle.rounds.specs.Solve.{Problem}
 use Rattle.rounds.proofs.Begins.{opened-within, opened-fixed, opened-rounds}
 use Rattle.rounds.proofs.opening.opened.Goals as goal
 

@@ -1,19 +1,16 @@
-use Prim.Native.Nat.{ℕ, ◌≤◌}
+use Prim.Native.Nat.{◌≤◌}
 use mathlib.Core.Bool.{false}
-use mathlib.Core.List.{List, ◌++◌}
+use mathlib.Core.List.{◌++◌}
 use mathlib.Core.Path.{◌≡◌, sym, ◌∙◌}
 use native.Mathlib.Omega.{arith}
 use borrow.Author.Tests.{not-true, not-false}
-use lib.Ieee.{Float}
 use lib.ListN.{length, take, drop, replicate, length-take}
 use Rattle.floats.specs.Ops.{zero⁺}
-use Rattle.members.proofs.Sized.{sized}
 use Rattle.members.specs.Lists.{numbers_of}
 use Rattle.members.specs.Movable.{indices_of}
 use Rattle.rounds.specs.Promise.{too_many}
 use Rattle.loops.proofs.Parts.{front, still-fits}
 use Rattle.rounds.proofs.Begins.{any-many, none-many, none-short, copied-front, copied-back, refused-many, refused-short, done-failed, done-converged}
-use borrow.Author.Rules.{rules}
 use Rattle.rounds.proofs.opening.solve.Goals as goal
 
 pub returns-then-x-gt80 : goal.returns-then-x-gt80

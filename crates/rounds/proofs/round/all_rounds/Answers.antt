@@ -1,15 +1,14 @@
-use Prim.Native.Nat.{◌-◌, ◌*◌, ◌≤◌}
-use mathlib.Core.List.{List, ◌++◌}
+use Prim.Native.Nat.{◌*◌, ◌≤◌}
+use mathlib.Core.List.{◌++◌}
 use mathlib.Core.Path.{◌≡◌, refl, sym, ◌∙◌}
 use native.Mathlib.Omega.{arith}
 use lib.Dec.{eqb}
-use lib.Ieee.{Float}
 use lib.ListN.{length, drop}
 use lib.Seq.{length_front}
 use borrow.Author.Rules.{rules}
 use Rattle.loops.proofs.Parts.{front}
-use Rattle.rounds.specs.Problem.{row_count, values_at, jacobian_at, problem_of, state_of, tried_of}
-use Rattle.rounds.specs.Solve.{Problem, State, round_of, rounds_of}
+use Rattle.rounds.specs.Problem.{row_count, jacobian_at, problem_of, state_of, tried_of}
+use Rattle.rounds.specs.Solve.{round_of}
 use Rattle.rounds.proofs.Around.{jacobian-found, round_is, round-counted, round-tried, round-owned, step_counts, rounds-stop, rounds-next, rounds-done}
 use Rattle.rounds.proofs.Turn.{reshaped, matched}
 use Rattle.rounds.proofs.round.all_rounds.Goals as goal

@@ -1,4 +1,4 @@
-use Prim.Native.Nat.{◌+◌, ◌-◌, ◌≤◌}
+use Prim.Native.Nat.{◌≤◌}
 use mathlib.Core.Bool.{false}
 use mathlib.Core.List.{List}
 use mathlib.Core.Path.{◌≡◌, refl, sym, ap, ◌∙◌}
@@ -14,7 +14,7 @@ use Rattle.solver.specs.Promise.{Finds}
 use Rattle.solver.specs.declared.Elimination.{Elimination}
 use Rattle.rounds.specs.Inside.{begun_fit, harder_fit, tries_at}
 use Rattle.rounds.specs.Problem.{row_count, problem_of, state_of, tried_of}
-use Rattle.rounds.specs.Solve.{Problem, State, Tried, try_of, tries_of}
+use Rattle.rounds.specs.Solve.{Tried, try_of, tries_of}
 use Rattle.rounds.proofs.Around.{product_found, diagonal-found}
 use Rattle.rounds.proofs.Trials.{no-trial, a-trial}
 use Rattle.rounds.proofs.Turn.{no-try, a-try, one-more, tries-next, tries-stop, tries-done, tries-are}

@@ -1,23 +1,9 @@
 use Prim.Native.Nat.{◌+◌, ◌-◌, ◌≤◌}
-use mathlib.Core.Bool.{false}
-use mathlib.Core.List.{List}
-use mathlib.Core.Path.{◌≡◌, refl, sym, ap, ◌∙◌}
-use native.Mathlib.Nat.{le_refl}
-use native.Mathlib.Omega.{arith}
-use lib.Ieee.{Float}
+use mathlib.Core.Path.{◌≡◌}
 use lib.ListN.{length}
-use borrow.Author.Rules.{rules}
-use borrow.Author.Tests.{not-true, not-false}
-use Rattle.normal.specs.Half.{triangle, spread_of}
-use Rattle.normal.specs.Normal.{damped_of}
-use Rattle.solver.specs.Promise.{Finds}
-use Rattle.solver.specs.declared.Elimination.{Elimination}
-use Rattle.rounds.specs.Inside.{begun_fit, harder_fit, tries_at}
-use Rattle.rounds.specs.Problem.{row_count, problem_of, state_of, tried_of}
-use Rattle.rounds.specs.Solve.{Problem, State, Tried, try_of, tries_of}
-use Rattle.rounds.proofs.Around.{product_found, diagonal-found}
-use Rattle.rounds.proofs.Trials.{no-trial, a-trial}
-use Rattle.rounds.proofs.Turn.{no-try, a-try, one-more, tries-next, tries-stop, tries-done, tries-are}
+use Rattle.normal.specs.Half.{spread_of}
+use Rattle.rounds.specs.Problem.{row_count, problem_of, state_of}
+use Rattle.rounds.specs.Solve.{tries_of}
 use Rattle.rounds.proofs.tries.all_tries.Given as goal
 
 abbrev pub invariant-loop : goal.invariant-loop

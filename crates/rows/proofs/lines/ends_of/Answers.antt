@@ -1,5 +1,4 @@
 -- What the calls promise. Assumes nothing.
-use borrow.Author.Rules.{rules}
 use Rattle.rows.proofs.lines.ends_of.Goals as goal
 
 pub returns : goal.returns

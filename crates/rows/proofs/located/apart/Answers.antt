@@ -1,5 +1,4 @@
 -- What the calls promise, from the last to the first. Assumes nothing.
-use borrow.Author.Rules.{rules}
 use Rattle.plane.specs.Vectors.{unit_from_of}
 use Rattle.rows.proofs.located.apart.Goals as goal
 

@@ -1,5 +1,4 @@
 -- What the calls promise, from the last to the first. Assumes nothing.
-use borrow.Author.Rules.{rules}
 use Rattle.rows.specs.Located.{at_of}
 use Rattle.rows.proofs.located.at.Goals as goal
 

@@ -1,5 +1,4 @@
 -- Past the end there is the default, 0. Assumes nothing.
-use borrow.Author.Rules.{rules}
 use mathlib.Core.Path.{sym}
 use lib.Dec.{lit<}
 use lib.ListN.{get_or-eq_default}

@@ -1,5 +1,4 @@
 -- What the calls promise, from the last to the first. Assumes nothing.
-use borrow.Author.Rules.{rules}
 use Rattle.rows.proofs.located.unit_from.Goals as goal
 
 pub returns : goal.returns

@@ -1,5 +1,4 @@
 -- What the calls promise, from the last to the first. Assumes nothing.
-use borrow.Author.Rules.{rules}
 use Rattle.rows.specs.Entries.{values_of}
 use Rattle.rows.specs.Kinds.{perpendicular_of}
 use Rattle.rows.proofs.residual.perpendicular.Goals as goal

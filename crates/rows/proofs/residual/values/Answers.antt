@@ -1,6 +1,5 @@
 -- Arm by arm: what the arm found out about the value, and what the calls in it promise. Assumes nothing.
 use Rattle.rows.specs.Ends.{rows_given}
-use borrow.Author.Rules.{rules}
 use Rattle.rows.proofs.residual.values.Goals as goal
 
 pub returns-in-Coincident : goal.returns-in-Coincident

@@ -1,15 +1,14 @@
 -- What the equations that are left store gives the whole. Assumes nothing.
-use Prim.Native.Nat.{◌≤◌, ◌*◌, ◌-◌}
 use mathlib.Core.Path.{◌≡◌, refl, ap, ◌∙◌}
 use borrow.Author.Tests.{lt-ltb, le-ltb}
 use borrow.Author.Rules.{rules}
-use lib.ListN.{length, drop}
+use lib.ListN.{length}
 use Rattle.loops.proofs.Parts.{any-default}
 use Rattle.loops.proofs.Picks.{pick_yes, pick_no}
 use Rattle.loops.specs.Turns.{fold}
 use Rattle.loops.proofs.Turning.{fold_done}
 use Rattle.sketch.specs.declared.Active.{Active}
-use Rattle.rows.specs.Column.{laid, next_value, values_next, column_of}
+use Rattle.rows.specs.Column.{next_value, values_next, column_of}
 use Rattle.sketch.specs.Blank.{blank_active}
 use Rattle.rows.specs.Located.{at_of}
 use Rattle.rows.proofs.Found.{found_rows}

@@ -1,5 +1,4 @@
 -- Assumes nothing.
-use borrow.Author.Rules.{rules}
 use Rattle.sketch.proofs.Wholes.{bounded-whole}
 use Rattle.sketch.proofs.Within.{within}
 use Rattle.sketch.proofs.checks.build_bounded.Goals as goal

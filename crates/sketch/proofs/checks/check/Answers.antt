@@ -1,7 +1,5 @@
 -- A count over its bound, or what the other tests come to. Assumes nothing.
-use mathlib.Core.Bool.{not}
-use mathlib.Core.Path.{sym, ap, ◌∙◌}
-use borrow.Author.Rules.{rules}
+use mathlib.Core.Path.{sym, ◌∙◌}
 use Rattle.sketch.specs.Check.{check_of}
 use Rattle.sketch.proofs.Given.{checks}
 use Rattle.sketch.proofs.checks.check.Goals as goal

@@ -1,6 +1,5 @@
 -- Arm by arm: what the arm found out about the value, and what the calls in it promise. Assumes nothing.
 use Rattle.sketch.specs.Rows.{rows_of}
-use borrow.Author.Rules.{rules}
 use Rattle.sketch.proofs.counts.rows.Goals as goal
 
 pub returns-in-Coincident : goal.returns-in-Coincident

@@ -1,9 +1,6 @@
 -- Assumes nothing.
-use Prim.Native.Nat.{◌≤◌, ◌-◌}
-use mathlib.Core.Path.{◌≡◌, refl}
+use mathlib.Core.Path.{refl}
 use borrow.Author.Rules.{rules}
-use lib.ListN.{take, drop}
-use Rattle.loops.specs.Turns.{every}
 use Rattle.sketch.specs.Indices.{found_line}
 use Rattle.sketch.proofs.Taken.{taken_next, taken-stop, taken-done}
 use Rattle.sketch.proofs.indices.lines_found.Goals as goal

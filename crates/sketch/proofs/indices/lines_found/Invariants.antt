@@ -1,10 +1,8 @@
-use Prim.Native.Nat.{◌≤◌, ◌-◌}
-use mathlib.Core.Path.{◌≡◌, refl}
-use borrow.Author.Rules.{rules}
+use Prim.Native.Nat.{◌≤◌}
+use mathlib.Core.Path.{◌≡◌}
 use lib.ListN.{take, drop}
 use Rattle.loops.specs.Turns.{every}
 use Rattle.sketch.specs.Indices.{found_line}
-use Rattle.sketch.proofs.Taken.{taken_next, taken-stop, taken-done}
 use Rattle.sketch.proofs.indices.lines_found.Given as goal
 
 abbrev pub invariant-loop-i : goal.invariant-loop-i

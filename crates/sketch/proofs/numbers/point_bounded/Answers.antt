@@ -1,6 +1,5 @@
 -- Assumes nothing.
 use mathlib.Core.Path.{sym}
-use borrow.Author.Rules.{rules}
 use Rattle.sketch.specs.Numbers.{bounded_field}
 use Rattle.sketch.proofs.Every.{every_append}
 use Rattle.sketch.proofs.numbers.point_bounded.Goals as goal

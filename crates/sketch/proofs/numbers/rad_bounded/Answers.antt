@@ -1,5 +1,4 @@
 -- Arm by arm: what the arm found out about the value, and what the calls in it promise. Assumes nothing.
-use borrow.Author.Rules.{rules}
 use Rattle.sketch.proofs.numbers.rad_bounded.Goals as goal
 
 pub returns-in-Point : goal.returns-in-Point

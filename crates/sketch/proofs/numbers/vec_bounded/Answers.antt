@@ -1,5 +1,4 @@
 -- Assumes nothing.
-use borrow.Author.Rules.{rules}
 use Rattle.sketch.proofs.Chained.{bounded-chain}
 use Rattle.sketch.proofs.numbers.vec_bounded.Goals as goal
 

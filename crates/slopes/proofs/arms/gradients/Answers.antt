@@ -1,5 +1,4 @@
 -- Arm by arm: what the arm found out about the value, and what the call in it promises. Assumes nothing.
-use borrow.Author.Rules.{rules}
 use Rattle.rows.specs.Ends.{rows_given}
 use Rattle.rows.specs.Kinds.{axis_distance_of, coincident_of, distance_of, length_of, level_kind_of, midpoint_of, point_line_of, radius_kind_of}
 use Rattle.slopes.specs.Arms.{rows_from}

@@ -1,5 +1,4 @@
 -- What the calls promise, from the last to the first. Assumes nothing.
-use borrow.Author.Rules.{rules}
 use Rattle.loops.specs.Turns.{fold}
 use Rattle.rows.specs.Kinds.{length_of}
 use Rattle.slopes.specs.Arms.{rows_from}

@@ -1,9 +1,6 @@
 -- Assumes nothing.
-use Prim.Native.Nat.{◌≤◌, ◌-◌}
-use mathlib.Core.Path.{◌≡◌, refl}
+use mathlib.Core.Path.{refl}
 use borrow.Author.Rules.{rules}
-use lib.ListN.{length}
-use Rattle.loops.specs.Turns.{up_to}
 use Rattle.loops.proofs.Turning.{up_to-next, up_to-done}
 use Rattle.slopes.specs.Dense.{clear_at, cleared_of}
 use Rattle.slopes.proofs.dense.clear_row.Goals as goal

@@ -1,5 +1,4 @@
 -- Past the table's end there is none. Assumes nothing.
-use borrow.Author.Rules.{rules}
 use lib.ListN.{get_or-eq_default}
 use Rattle.loops.proofs.Parts.{any-default}
 use Rattle.slopes.proofs.dense.free.Goals as goal

@@ -1,5 +1,4 @@
 -- The coordinate x first, then y. Assumes nothing.
-use borrow.Author.Rules.{rules}
 use Rattle.slopes.specs.Dense.{add_entry}
 use Rattle.slopes.proofs.dense.push.Goals as goal
 

@@ -1,17 +1,15 @@
 -- What the equations that are left store gives the whole. Assumes nothing.
-use Prim.Native.Nat.{◌≤◌, ◌*◌, ◌-◌}
 use mathlib.Core.Bool.{Bool, true, false, ◌||◌}
 use mathlib.Core.Path.{◌≡◌, refl, ap, subst, ◌∙◌}
 use borrow.Author.Tests.{ltb-false}
 use lib.Dec.{T}
 use borrow.Author.Rules.{rules}
-use lib.ListN.{length, drop}
+use lib.ListN.{length}
 use Rattle.loops.proofs.Parts.{any-default}
 use Rattle.loops.proofs.Picks.{pick_yes, pick_no}
 use Rattle.loops.specs.Turns.{fold}
 use Rattle.loops.proofs.Turning.{fold_done}
 use Rattle.sketch.specs.declared.Active.{Active}
-use Rattle.rows.specs.Column.{laid}
 use Rattle.sketch.specs.Blank.{blank_active}
 use Rattle.rows.specs.Located.{at_of}
 use Rattle.slopes.specs.Dense.{next_row, rows_next, jacobian_of}

@@ -1,5 +1,4 @@
 -- Arm by arm: what the arm found out about the value, and what the call in it promises. Assumes nothing.
-use borrow.Author.Rules.{rules}
 use Rattle.loops.specs.Turns.{fold}
 use Rattle.slopes.proofs.through.radius.Goals as goal
 

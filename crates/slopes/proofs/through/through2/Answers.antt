@@ -1,5 +1,4 @@
 -- What the calls promise, from the last to the first. Assumes nothing.
-use borrow.Author.Rules.{rules}
 use Rattle.loops.specs.Turns.{fold}
 use Rattle.slopes.proofs.through.through2.Goals as goal
 

@@ -1,11 +1,8 @@
 use borrow.Author.Tests.{not-true, not-false}
-use Prim.Native.Nat.{◌≤◌, ◌-◌}
-use mathlib.Core.Path.{◌≡◌, refl}
-use lib.ListN.{length, drop}
+use mathlib.Core.Path.{refl}
 use lib.Ieee.{nan}
 use lib.Ieee.Scale.{finite}
 use borrow.Author.Rules.{rules}
-use Rattle.loops.specs.Turns.{every}
 use Rattle.loops.proofs.Turning.{every-next, every-stop, every-done}
 use Rattle.solver.proofs.back.all_finite.Goals as goal
 

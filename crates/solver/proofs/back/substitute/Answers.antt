@@ -14,7 +14,7 @@ use Rattle.loops.proofs.Both.{up_to-same}
 use Rattle.loops.proofs.Turning.{down_to-next, down_to-done}
 use Rattle.loops.proofs.Cells.{cells}
 use Rattle.loops.proofs.Parts.{get-past}
-use Rattle.solver.specs.Steps.{sys, at, add_term, sum_of, back_at, back_of}
+use Rattle.solver.specs.Steps.{at, add_term, sum_of, back_at, back_of}
 use Rattle.solver.proofs.back.substitute.Invariants.{so_far}
 use Rattle.solver.proofs.back.substitute.Goals as goal
 

@@ -1,10 +1,6 @@
-use Prim.Native.Nat.{◌≤◌, ◌-◌}
-use mathlib.Core.Path.{◌≡◌, refl}
-use lib.Ieee.{neg, of_bits}
-use borrow.Author.Rules.{rules}
+use Prim.Native.Nat.{◌≤◌}
+use mathlib.Core.Path.{◌≡◌}
 use Rattle.loops.specs.Turns.{up_to}
-use Rattle.loops.proofs.Turning.{up_to-next, up_to-done}
-use Rattle.loops.proofs.Cells.{cells}
 use Rattle.solver.specs.Steps.{add_term, sum_of}
 use Rattle.solver.proofs.back.weight.Given as goal
 

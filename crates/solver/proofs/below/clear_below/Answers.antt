@@ -1,12 +1,9 @@
 -- Each turn is one call, whose contract is the definition's step. Assumes nothing.
-use Prim.Native.Nat.{◌≤◌, ◌<◌, ◌-◌}
-use mathlib.Core.Path.{◌≡◌, refl}
-use lib.ListN.{length}
+use mathlib.Core.Path.{refl}
 use borrow.Author.Rules.{rules}
-use Rattle.loops.specs.Turns.{up_to}
 use Rattle.loops.proofs.Turning.{up_to-next, up_to-done}
 use Rattle.loops.proofs.Cells.{cells}
-use Rattle.solver.specs.Steps.{sys, row_of, below_of}
+use Rattle.solver.specs.Steps.{below_of}
 use Rattle.solver.proofs.below.clear_below.Goals as goal
 
 pub overflow_mul-p : goal.overflow_mul-p

@@ -1,7 +1,6 @@
 use mathlib.Core.Path.{refl, ap₂}
 use Rattle.loops.proofs.Picks.{pick_yes, pick_no}
 use Rattle.solver.specs.Steps.{sys, less_row}
-use borrow.Author.Rules.{rules}
 use Rattle.solver.proofs.below.less_row.Goals as goal
 
 pub returns-then-f : goal.returns-then-f

@@ -1,8 +1,5 @@
-use Prim.Native.Nat.{◌≤◌, ◌-◌}
-use mathlib.Core.Path.{◌≡◌, refl}
-use lib.ListN.{length}
+use mathlib.Core.Path.{refl}
 use borrow.Author.Rules.{rules}
-use Rattle.loops.specs.Turns.{up_to}
 use Rattle.loops.proofs.Turning.{up_to-next, up_to-done}
 use Rattle.solver.specs.Steps.{less_past}
 use Rattle.solver.proofs.below.row_update.Goals as goal

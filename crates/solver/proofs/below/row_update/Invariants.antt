@@ -1,9 +1,7 @@
-use Prim.Native.Nat.{◌≤◌, ◌-◌}
-use mathlib.Core.Path.{◌≡◌, refl}
+use Prim.Native.Nat.{◌≤◌}
+use mathlib.Core.Path.{◌≡◌}
 use lib.ListN.{length}
-use borrow.Author.Rules.{rules}
 use Rattle.loops.specs.Turns.{up_to}
-use Rattle.loops.proofs.Turning.{up_to-next, up_to-done}
 use Rattle.solver.specs.Steps.{less_past}
 use Rattle.solver.proofs.below.row_update.Given as goal
 

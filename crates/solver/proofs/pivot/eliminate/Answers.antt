@@ -1,11 +1,8 @@
-use Prim.Native.Nat.{◌≤◌, ◌-◌}
-use mathlib.Core.Path.{◌≡◌, refl}
+use mathlib.Core.Path.{refl}
 use native.Mathlib.Nat.{sub-zero}
-use lib.ListN.{length}
 use borrow.Author.Rules.{rules}
 use borrow.Author.Tests.{not-true, not-false}
-use Rattle.solver.specs.Lesser.{lesser_column, lesser_eliminated}
-use Rattle.solver.specs.Reasons.{columns_from}
+use Rattle.solver.specs.Lesser.{lesser_eliminated}
 use Rattle.solver.proofs.Columns.{columns-next, columns-stop, columns-done}
 use Rattle.solver.specs.Steps.{sys}
 use Rattle.solver.proofs.pivot.eliminate.Goals as goal

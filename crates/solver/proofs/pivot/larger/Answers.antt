@@ -3,7 +3,6 @@ use mathlib.Core.Bool.{true, false, true≢false}
 use mathlib.Core.Path.{◌≡◌, refl, sym, ◌∙◌}
 use lib.Ieee.{Float, nan, inf, fin, lt, is_nan}
 use Rattle.floats.specs.Magnitude.{abs_of, max_of}
-use borrow.Author.Rules.{rules}
 use Rattle.solver.proofs.pivot.larger.Goals as goal
 
 module _ (m v a : Float) (size : a ≡ abs_of v) where

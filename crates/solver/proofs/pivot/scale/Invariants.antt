@@ -1,14 +1,11 @@
 use mathlib.Core.Bool.{false}
-use lib.Ieee.{nan, is_nan, of_bits}
-use Prim.Native.Nat.{◌≤◌, ◌-◌}
-use mathlib.Core.Path.{◌≡◌, refl, ap, ◌∙◌}
+use lib.Ieee.{is_nan}
+use Prim.Native.Nat.{◌≤◌}
+use mathlib.Core.Path.{◌≡◌}
 use lib.ListN.{length, drop}
-use borrow.Author.Rules.{rules}
-use Rattle.floats.specs.Ops.{zero⁺, 1e-300}
-use Rattle.floats.specs.Magnitude.{max_of}
+use Rattle.floats.specs.Ops.{zero⁺}
 use Rattle.loops.specs.Turns.{fold}
-use Rattle.loops.proofs.Turning.{fold_next, fold_done}
-use Rattle.solver.specs.Steps.{larger_of, scale_of}
+use Rattle.solver.specs.Steps.{larger_of}
 use Rattle.solver.proofs.pivot.scale.Given as goal
 
 abbrev pub invariant-loop-i : goal.invariant-loop-i

@@ -3,7 +3,6 @@ use borrow.Author.Tests.{eq-eqb, ne_eqb}
 use Rattle.loops.proofs.Picks.{pick_yes, pick_no}
 use Rattle.solver.specs.Lesser.{lesser_swapped}
 use Rattle.solver.specs.Steps.{sys}
-use borrow.Author.Rules.{rules}
 use Rattle.solver.proofs.pivot.swap_in.Goals as goal
 
 pub returns-then-piv-col : goal.returns-then-piv-col

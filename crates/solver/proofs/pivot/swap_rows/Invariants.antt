@@ -1,11 +1,7 @@
-use Prim.Native.Nat.{◌≤◌, ◌-◌}
-use mathlib.Core.Path.{◌≡◌, refl}
+use Prim.Native.Nat.{◌≤◌}
+use mathlib.Core.Path.{◌≡◌}
 use lib.ListN.{length}
-use borrow.Author.Rules.{rules}
-use Rattle.floats.specs.Lists.{swap_at}
 use Rattle.loops.specs.Turns.{up_to}
-use Rattle.loops.proofs.Turning.{up_to-next, up_to-done}
-use Rattle.loops.proofs.Cells.{cells}
 use Rattle.solver.specs.Lesser.{part_swapped}
 use Rattle.solver.specs.Steps.{swap_column}
 use Rattle.solver.proofs.pivot.swap_rows.Given as goal

@@ -1,10 +1,7 @@
 -- Assumes nothing.
-use Prim.Native.Nat.{◌≤◌, ◌-◌}
-use mathlib.Core.Path.{◌≡◌, refl}
+use mathlib.Core.Path.{refl}
 use borrow.Author.Rules.{rules}
-use Rattle.loops.specs.Turns.{up_to}
 use Rattle.loops.proofs.Turning.{up_to-next, up_to-done}
-use Rattle.spelling.specs.Floating.{next_hex}
 use Rattle.spelling.proofs.floating.bits.Goals as goal
 
 pub loop-i-init : goal.loop-i-init

@@ -2,7 +2,6 @@
 -- Assumes nothing.
 use lib.Ieee.{div, of_bits}
 use Rattle.spelling.proofs.Bits.{no_nan, is-nan}
-use borrow.Author.Rules.{rules}
 use Rattle.spelling.proofs.floating.float_of.Goals as goal
 
 pub float_from_bits-result : goal.float_from_bits-result

@@ -11,7 +11,6 @@ use Rattle.spelling.specs.Places.{byte_at, further_of, spoilt_of}
 use Rattle.spelling.specs.declared.BitsRead.{BitsRead}
 use Rattle.spelling.specs.declared.Cursor.{Cursor}
 use Rattle.loops.proofs.Picks.{both}
-use borrow.Author.Rules.{rules}
 use Rattle.spelling.proofs.floating.next_hex.Goals as goal
 
 room : (d b : ℕ) → ltb d 16 && ltb b 0x1000_0000_0000_0000 ≡ true → (16 * b < 2 ^ 64) × (16 * b + d < 2 ^ 64)

@@ -3,7 +3,6 @@
 use borrow.Author.Tests.{not-true, not-false}
 use mathlib.Core.Path.{sym}
 use lib.ListN.{get_or-eq_default}
-use borrow.Author.Rules.{rules}
 use Rattle.spelling.proofs.places.byte.Goals as goal
 
 pub returns-then-not-c : goal.returns-then-not-c

@@ -2,7 +2,6 @@
 use borrow.Author.Tests.{eq-eqb, ne_eqb}
 use mathlib.Core.Path.{sym}
 use Rattle.spelling.specs.Places.{eat_of}
-use borrow.Author.Rules.{rules}
 use Rattle.spelling.proofs.places.eat.Goals as goal
 
 pub returns-then-byte-b : goal.returns-then-byte-b

@@ -1,7 +1,6 @@
 -- Assumes nothing.
 use borrow.Author.Tests.{lt-ltb, le-ltb}
 use Rattle.spelling.specs.Places.{further_of}
-use borrow.Author.Rules.{rules}
 use Rattle.spelling.proofs.places.further.Goals as goal
 
 pub returns-then-c-s : goal.returns-then-c-s

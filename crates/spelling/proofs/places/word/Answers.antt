@@ -1,9 +1,6 @@
 -- Assumes nothing.
-use Prim.Native.Nat.{◌≤◌, ◌-◌}
-use mathlib.Core.Path.{◌≡◌, refl}
+use mathlib.Core.Path.{refl}
 use borrow.Author.Rules.{rules}
-use lib.ListN.{length, drop}
-use Rattle.loops.specs.Turns.{fold}
 use Rattle.loops.proofs.Turning.{fold_next, fold_done}
 use Rattle.spelling.specs.Places.{eat_of}
 use Rattle.spelling.proofs.places.word.Goals as goal

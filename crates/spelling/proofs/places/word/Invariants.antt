@@ -1,9 +1,7 @@
-use Prim.Native.Nat.{◌≤◌, ◌-◌}
-use mathlib.Core.Path.{◌≡◌, refl}
-use borrow.Author.Rules.{rules}
+use Prim.Native.Nat.{◌≤◌}
+use mathlib.Core.Path.{◌≡◌}
 use lib.ListN.{length, drop}
 use Rattle.loops.specs.Turns.{fold}
-use Rattle.loops.proofs.Turning.{fold_next, fold_done}
 use Rattle.spelling.specs.Places.{eat_of}
 use Rattle.spelling.proofs.places.word.Given as goal
 

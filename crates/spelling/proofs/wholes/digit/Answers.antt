@@ -1,7 +1,6 @@
 -- Assumes nothing.
 use borrow.Author.Tests.{lt-ltb, le-ltb, le-leb, lt-leb}
 use Rattle.spelling.specs.Wholes.{digit_of}
-use borrow.Author.Rules.{rules}
 use Rattle.spelling.proofs.wholes.digit.Goals as goal
 
 pub returns-then-b-lt48 : goal.returns-then-b-lt48

@@ -2,7 +2,6 @@
 use borrow.Author.Tests.{lt-ltb, le-ltb}
 use mathlib.Core.Path.{sym}
 use Rattle.spelling.specs.Wholes.{first_digit_of}
-use borrow.Author.Rules.{rules}
 use Rattle.spelling.proofs.wholes.first_digit.Goals as goal
 
 pub returns-then-d-lt10 : goal.returns-then-d-lt10

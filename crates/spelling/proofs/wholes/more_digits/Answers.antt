@@ -11,7 +11,6 @@ use Rattle.spelling.specs.Wholes.{digit_of, more_of}
 use Rattle.spelling.specs.declared.Cursor.{Cursor}
 use Rattle.spelling.specs.declared.WholeRead.{WholeRead}
 use Rattle.loops.proofs.Picks.{both}
-use borrow.Author.Rules.{rules}
 use Rattle.spelling.proofs.wholes.more_digits.Goals as goal
 
 room : (d v : ℕ) (p : Bool) → ltb d 10 && p && leb v 9999 ≡ true → (10 * v < 2 ^ 64) × (10 * v + d < 2 ^ 64)

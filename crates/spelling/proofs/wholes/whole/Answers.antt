@@ -1,5 +1,4 @@
 -- Assumes nothing.
-use borrow.Author.Rules.{rules}
 use Rattle.spelling.proofs.wholes.whole.Goals as goal
 
 pub returns : goal.returns

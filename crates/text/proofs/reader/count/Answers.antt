@@ -1,6 +1,5 @@
 -- Assumes nothing.
 use Rattle.text.specs.Reader.{count_at}
-use borrow.Author.Rules.{rules}
 use Rattle.text.proofs.reader.count.Goals as goal
 
 pub returns : goal.returns

@@ -1,6 +1,5 @@
 -- Assumes nothing.
 use Rattle.text.specs.Reader.{counts_at}
-use borrow.Author.Rules.{rules}
 use Rattle.text.proofs.reader.counts.Goals as goal
 
 pub returns : goal.returns

@@ -1,6 +1,5 @@
 -- Assumes nothing.
 use Rattle.text.specs.Lines.{equation_line}
-use borrow.Author.Rules.{rules}
 use Rattle.text.proofs.rows.equation_line.Goals as goal
 
 pub returns : goal.returns

@@ -1,7 +1,6 @@
 -- Assumes nothing.
 use mathlib.Core.Path.{sym}
 use Rattle.text.specs.Lines.{state_at}
-use borrow.Author.Rules.{rules}
 use Rattle.text.proofs.rows.state.Goals as goal
 
 pub returns-then-free : goal.returns-then-free
