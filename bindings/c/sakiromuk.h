@@ -1,5 +1,5 @@
-/* The proved fitter for programs in C and C++ on x86-64 Linux: include this and link libsakiromuk.a, which `rt staticlib sakiromuk`
-   writes to target/staticlib. A job's text goes in and its reply comes out; docs/FORMAT.md has the form of both. */
+/* The proved fitter for programs in C and C++ on x86-64 Linux: include this and link libsakiromuk.a, which `rt lib` in
+   crates/sakiromuk writes to its out/. A job's text goes in and its reply comes out; docs/FORMAT.md has the form of both. */
 #ifndef SAKIROMUK_H
 #define SAKIROMUK_H
 
