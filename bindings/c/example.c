@@ -1,6 +1,6 @@
 /* Fits the job on standard input and prints its reply; ends with the job's number.
 
-       cc -I bindings/c -o example bindings/c/example.c target/staticlib/libsakiromuk.a */
+       cc -I bindings/c -o example bindings/c/example.c crates/sakiromuk/out/libsakiromuk.a */
 #include <stdio.h>
 
 #include "sakiromuk.h"

@@ -1,5 +1,5 @@
-//! Links libsakiromuk.a, which has the proved code. Its folder is SAKIROMUK_LIB_DIR; where that is not set, `rt staticlib sakiromuk` is
-//! asked for it in this repository, which the first time proves every room below it and takes some ten minutes.
+//! Links libsakiromuk.a, which has the proved code. Its folder is SAKIROMUK_LIB_DIR; where that is not set, `rt lib` is asked for it in
+//! this repository's crates/sakiromuk, which the first time proves every room below it and takes some ten minutes.
 
 use std::ffi::OsString;
 use std::path::{Path, PathBuf};
@@ -27,13 +27,20 @@ fn given(folder: OsString) -> PathBuf {
 /// The folder of the archive that `rt` makes of the crates beside this package.
 fn proved_here() -> PathBuf {
     let root = Path::new(env!("CARGO_MANIFEST_DIR")).join("../..");
-    for part in ["crates", "crates.txt"] {
-        println!("cargo:rerun-if-changed={}", root.join(part).display());
+    println!("cargo:rerun-if-changed={}", root.join("crates.txt").display());
+    // Not a crate's out/, which rt writes.
+    for room in std::fs::read_dir(root.join("crates")).expect("this repository's crates").flatten() {
+        for part in ["src", "specs", "proofs"].map(|part| room.path().join(part)) {
+            if part.is_dir() {
+                println!("cargo:rerun-if-changed={}", part.display());
+            }
+        }
     }
-    let made = Command::new("rt").args(["staticlib", "sakiromuk"]).current_dir(&root).output();
+    let room = root.join("crates/sakiromuk");
+    let made = Command::new("rt").arg("lib").current_dir(&room).output();
     let made = made
         .unwrap_or_else(|e| panic!("rt, the toolchain's program, could not be run ({e}); SAKIROMUK_LIB_DIR can name a folder with libsakiromuk.a"));
     let said = |bytes: &[u8]| String::from_utf8_lossy(bytes).into_owned();
-    assert!(made.status.success(), "rt staticlib sakiromuk failed:\n{}{}", said(&made.stdout), said(&made.stderr));
-    root.join("target/staticlib")
+    assert!(made.status.success(), "rt lib failed in {}:\n{}{}", room.display(), said(&made.stdout), said(&made.stderr));
+    room.join("out")
 }
