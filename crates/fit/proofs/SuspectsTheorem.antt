@@ -33,7 +33,6 @@ module _ (b : Build) (f : Frame) (k : ℕ) where
 
   -- what is right stays right
   stays : (l : List ℕ) (marks : List Bool) → k < length marks → get_or marks k false ≡ suspect b f k → get_or (fold (mark b f) marks l) k false ≡ suspect b f k
-  unfolding fold
   stays [] marks h e = e
   stays (a ∷ l) marks h e = stays l (mark b f marks a) (long marks a h) (turn (ℕ_discrete k a))
     where
@@ -43,7 +42,6 @@ module _ (b : Build) (f : Frame) (k : ℕ) where
 
   -- each of the list is marked rightly
   marked : (l : List ℕ) (marks : List Bool) → k < length marks → Memᴰ k l → get_or (fold (mark b f) marks l) k false ≡ suspect b f k
-  unfolding fold
   marked [] marks h m = absurd (Memᴰ.not-nil m)
   marked (a ∷ l) marks h m = of (Memᴰ.cases_cons m) (marked l (mark b f marks a) (long marks a h))
     where
@@ -54,7 +52,6 @@ module _ (b : Build) (f : Frame) (k : ℕ) where
 
   -- and nothing else is marked
   listed : (l : List ℕ) (marks : List Bool) → get_or (fold (mark b f) marks l) k false ≡ true → Memᴰ k l ⊎ (get_or marks k false ≡ true)
-  unfolding fold
   listed [] marks e = inr e
   listed (a ∷ l) marks e = of (listed l (mark b f marks a) e) (ℕ_discrete k a)
     where
@@ -72,7 +69,7 @@ module _ (b : Build) (f : Frame) (k : ℕ) where
 
 module _ (b : Build) (f : Frame) where
   marked-sized : (l : List ℕ) (marks : List Bool) → length (fold (mark b f) marks l) ≡ length marks
-  unfolding fold mark
+  unfolding mark
   marked-sized [] marks = refl
   marked-sized (a ∷ l) marks = marked-sized l (mark b f marks a) ∙ rw length-set
 

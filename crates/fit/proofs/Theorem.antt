@@ -67,7 +67,6 @@ module _ {A B : Type 0} {f h : A → List B} where
 
 module _ {A S : Type 0} {f h : S → A → S} where
   fold_on : (l : List A) (s : S) → ((t : S) → Agree (f t) (h t) l) → fold f s l ≡ fold h s l
-  unfolding fold
   fold_on [] s e = refl
   fold_on (a ∷ l) s e = ap (λ t. fold f t l) (e s a (Memᴰ.head refl)) ∙ fold_on l (h s a) (λ t c m. e t c (Memᴰ.tail m))
 

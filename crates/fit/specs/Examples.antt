@@ -43,7 +43,7 @@ abbrev second : Build
 second = sample origin one (point_in Kept ∷ point_in Kept ∷ point_in Kept ∷ blank_point ∷ blank_point ∷ []) (line 3 4 ∷ []) (length_is_one 0 ∷ blank_active ∷ []) []
 
 pub passing : (check_of first ≡ Passes) × (check_of second ≡ Passes)
-unfolding check_of le lt eq neg of_bits every flat_map fold more_rows rows_of
+unfolding check_of le lt eq neg of_bits flat_map more_rows rows_of
 passing = (refl, refl)
 
 grouped :
@@ -51,7 +51,7 @@ grouped :
     × (points_of_group second 0 ≡ 3 ∷ 4 ∷ [])
     × (equations_of_group first 1 ≡ 0 ∷ [])
     × (equations_of_group second 0 ≡ 0 ∷ [])
-unfolding places_from numbered_of entered_of point_of list_point list_points group_of list_equation list_equations groups_of climb root_of join_to join_all self_at joined tie_to tie_all tied_in touched_in turns up_to fold
+unfolding places_from numbered_of entered_of point_of list_point list_points group_of list_equation list_equations groups_of climb root_of join_to join_all self_at joined tie_to tie_all tied_in touched_in turns up_to
 grouped = (refl, refl, refl, refl)
 
 same_point : (p : ℕ) → Memᴰ p (3 ∷ 4 ∷ []) → get_or first.points p nowhere ≡ get_or second.points p nowhere

@@ -94,7 +94,7 @@ pub record BothSides : Type 0 where
   pub l : Unmoved Free × Unmoved Kept
 
 largest : (max_abs_of [] ≡ zero⁺) × (max_abs_of (nan ∷ []) ≡ inf false)
-unfolding max_abs_of larger_abs fold
+unfolding max_abs_of larger_abs
 largest = (refl, refl)
 
 pub both-sides : BothSides

@@ -177,7 +177,6 @@ more a m s r l h k one rest = record {
     which (inr t) q = inr (t.0, Memᴰ.tail t.1, t.2)
 
 rise : (l : List Float) (m : Float) → not_negative m ≡ true → Risen l m (fold larger_abs m l)
-unfolding fold
 rise [] m h = record { plain = h; up_from = le-self m h; above = λ a i. absurd (Memᴰ.not-nil i); either = inl refl }
 rise (a ∷ l) m h = more a m (larger_abs m a) _ l h (larger m a h) (one-more m a h) (rise l (larger_abs m a) (larger m a h))
 

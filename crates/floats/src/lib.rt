@@ -10,17 +10,15 @@ ghost use Rattle.floats.specs.Lists.{copied_of, swap_at};
 ghost use Rattle.floats.specs.Magnitude.{abs_of, magnitude_of, max_of};
 ghost use Rattle.floats.specs.Ops.{zero⁺};
 
-use loops::smaller;
-
-// x without its sign, by its bits: a branch on the sign would be mispredicted every second time in a scan over a matrix. A
-// NaN has no bits of its own, so it is tested for first.
+// x without its sign, by its bits: a branch on the sign, as std's has, would be mispredicted every second time in a scan over a
+// matrix. A NaN has no bits of its own, so it is tested for first.
 pub fn abs(x: f64) -> f64
     ensures { result ≡ abs_of x }
 {
-    if x != x {
+    if x.is_nan() {
         x
     } else {
-        f64::from_bits(f64::to_bits(x) % 0x8000_0000_0000_0000)
+        f64::from_bits(x.to_bits() % 0x8000_0000_0000_0000)
     }
 }
 
@@ -28,16 +26,16 @@ pub fn abs(x: f64) -> f64
 pub fn is_finite(x: f64) -> bool
     ensures { result ≡ finite x }
 {
-    x * 0.0 == 0.0
+    x.is_finite()
 }
 
-// The larger of a and b; where one is a NaN, the other.
+// The larger of a and b; where one is a NaN, the other. Of equals it is the first, zeros of both signs too, which std's leaves open.
 pub fn max(a: f64, b: f64) -> f64
     ensures { result ≡ max_of a b }
 {
     if a < b {
         b
-    } else if a != a {
+    } else if a.is_nan() {
         b
     } else {
         a
@@ -51,29 +49,26 @@ pub fn larger_abs(m: f64, a: f64) -> f64
     if is_finite(a) {
         max(m, abs(a))
     } else {
-        1.0 / 0.0
+        f64::INFINITY
     }
 }
 
 // The largest magnitude, and infinite where a number is not finite.
+#[tactic(auto, unfolding(crate::specs::Largest::max_abs_of))]
 pub fn max_abs(v: &[f64]) -> f64
     ensures { result ≡ max_abs_of v.now }
 {
-    let mut m = 0.0;
-    for i in 0..v.len() {
-        m = larger_abs(m, v[i]);
-    }
-    m
+    v.iter().fold(0.0, |m, a| larger_abs(m, *a))
 }
 
 // The place of x in the order of magnitudes.
 pub fn magnitude(x: f64) -> u64
     ensures { result ≡ magnitude_of x }
 {
-    if x != x {
+    if x.is_nan() {
         0x7ff8_0000_0000_0000
     } else {
-        f64::to_bits(x) % 0x8000_0000_0000_0000
+        x.to_bits() % 0x8000_0000_0000_0000
     }
 }
 
@@ -81,42 +76,36 @@ pub fn magnitude(x: f64) -> u64
 pub fn handed_out(x: f64) -> f64
     ensures { result ≡ x }
 {
-    if x != x { 0.0 / 0.0 } else { x }
+    if x.is_nan() { f64::NAN } else { x }
 }
 
 // What stands at i, and a NaN past the end.
 pub fn get(s: &[f64], i: usize) -> f64
     ensures { result ≡ get_or s.now i nan }
 {
-    if i < s.len() { s[i] } else { 0.0 / 0.0 }
+    slices::get_or(s, i, f64::NAN)
 }
 
 // Puts v at i, and does nothing past the end.
 pub fn put(s: &mut [f64], i: usize, v: f64)
     ensures { s.new ≡ set s.old i v }
 {
-    if i < s.len() {
-        s[i] = v;
-    }
+    slices::put(s, i, v);
 }
 
 // Every place +0.0.
 pub fn clear(s: &mut [f64])
     ensures { s.new ≡ replicate (length s.old) zero⁺ }
 {
-    for i in 0..s.len() {
-        s[i] = 0.0;
-    }
+    s.fill(0.0);
 }
 
 // As much of `from` as there is room for goes to the head of `to`.
 pub fn copy(from: &[f64], to: &mut [f64])
     ensures { to.new ≡ copied_of from.now to.old }
 {
-    let n = smaller(from.len(), to.len());
-    for i in 0..n {
-        to[i] = from[i];
-    }
+    let n = from.len().min(to.len());
+    to[..n].copy_from_slice(&from[..n]);
 }
 
 // Every place as it is handed out.
@@ -132,8 +121,8 @@ pub fn hand_out(s: &mut [f64])
 pub fn swap(s: &mut [f64], i: usize, j: usize)
     ensures { s.new ≡ swap_at i j s.old }
 {
-    let x = get(s, i);
-    let y = get(s, j);
-    put(s, i, y);
-    put(s, j, x);
+    let x = slices::get_or(s, i, f64::NAN);
+    let y = slices::get_or(s, j, f64::NAN);
+    slices::put(s, i, y);
+    slices::put(s, j, x);
 }

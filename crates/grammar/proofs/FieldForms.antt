@@ -27,14 +27,14 @@ always : (t : List ℕ) → parted t ≡ true → anything t ≡ true
 always t h = refl
 
 pub number-reads : Reads (λ n. ascii "," ++ whole_text n) Whole (λ s c. (number_at s c).value) (λ s c. (number_at s c).next) parted
-unfolding number_at fold
+unfolding number_at
 number-reads = after-word (ascii ",") whole-reads
 
 abbrev pub read_value : List ℕ → Cursor → ℕ
 read_value s c = (bits_at s (eat_of s c 44)).bits
 
 pub value-reads : Reads (λ b. ascii "," ++ float_text b) Pattern read_value (λ s c. (value_at s c).next) anything
-unfolding value_at fold
+unfolding value_at
 value-reads = after-word (ascii ",") float-reads
 
 -- what a test picks, taken further
@@ -215,6 +215,5 @@ fields-part [] v t h = h
 fields-part (f ∷ l) v t h = refl
 
 pub fields-reads : (l : List Sort) → Reads (contents_text l) (ContentsFit l) (read_fields l) (λ s c. past_fields s l c) parted
-unfolding fold
 fields-reads [] = before_more parted always (word-reads [])
 fields-reads (f ∷ l) = and-reads (field-reads f) (fields-reads l) (fields-part l)

@@ -27,7 +27,7 @@ use Rattle.grammar.proofs.LineForms.{read_place, vec-is, place-reads, newline, r
 
 -- The count lines.
 count-reads : (key : List ℕ) → Reads (λ n. key ++ (whole_text n ++ ascii "\n")) Whole (λ s c. (count_at s c key).value) (λ s c. (count_at s c key).next) anything
-unfolding count_at fold
+unfolding count_at
 count-reads key = after-word key (then-word (ascii "\n") newline whole-reads)
 
 abbrev pub read_counts : List ℕ → Cursor → Counts
@@ -146,7 +146,6 @@ module _ (n : Counts) (s : List ℕ) (c : Cursor) where
   next_rest = next_measures n.measures s at_measures
 
 pub rest-reads : (n : Counts) → Reads rest_text (RestFits n) (read_rest n) (next_rest n) anything
-unfolding fold
 rest-reads n =
     as-reads {A = Place × (ℕ × (List PointItem × (List LineItem × (List EquationItem × List MeasureItem))))} {B = Job}
     (λ p. record { centre = p.0; size = p.1.0; points = p.1.1.0; lines = p.1.1.1.0; equations = p.1.1.1.1.0; measures = p.1.1.1.1.1 })
@@ -161,7 +160,7 @@ rest-reads n =
 
 pub build-is : (s : List ℕ) (r : CountsRead) → let n : Counts = record { points = r.points; lines = r.lines; equations = r.equations; measures = r.measures } in
     r.points ≤ 40 → r.lines ≤ 40 → r.equations ≤ 40 → r.measures ≤ 20 → build_at s r ≡ record { build = build_of (read_rest n s r.next); next = next_rest n s r.next }
-unfolding build_at fold
+unfolding build_at
 build-is s r h k i j =
     let n : Counts = record { points = r.points; lines = r.lines; equations = r.equations; measures = r.measures } in
     let c = r.next in

@@ -70,7 +70,6 @@ next_held a_kept s c = c
 next_held an_at s c = (vec_at s c).next
 
 held_reads : (w : Word) → Reads (held_text w) (HeldFits w) (read_held w) (next_held w) anything
-unfolding fold
 held_reads a_free = word-reads []
 held_reads a_kept = word-reads []
 held_reads an_at = place-reads
@@ -147,7 +146,7 @@ unfolding point_line vec_at value_at
 point-is s c = let d = fold (eat_of s) c (ascii "p=") in ap (λ r. record { start = vec_of (read_place s d); state = r.state }) (state-at s (vec_at s d).next)
 
 pub point-reads : Reads point_line_text PointFits read_point (λ s c. (point_line s c).next) anything
-unfolding point_line fold
+unfolding point_line
 point-reads =
     as-reads {A = Place × Standing} {B = PointItem} (λ p. record { start = p.0; standing = p.1 }) (λ p. (p.start, p.standing)) (λ b. refl) (λ b. simp append_assoc) (λ a. simp append_assoc) (λ b h. h) (λ a h. h) (λ s c. refl) (λ s c. refl)
     (after-word (ascii "p=") (and-reads place-reads (then-word (ascii "\n") (λ t. refl) standing-reads) (λ b t h. refl)))
@@ -160,7 +159,7 @@ unfolding line_line
 line-is s c = refl
 
 pub line_reads : Reads line_line_text LineFits read_line (λ s c. (line_line s c).next) anything
-unfolding line_line fold
+unfolding line_line
 line_reads =
     as-reads {A = ℕ × ℕ} {B = LineItem} (λ p. record { from = p.0; to = p.1 }) (λ l. (l.from, l.to)) (λ b. refl) (λ b. simp append_assoc) (λ a. simp append_assoc) (λ b h. h) (λ a h. h) (λ s c. refl) (λ s c. refl)
     (after-word (ascii "l=") (and-reads whole-reads (then-word (ascii "\n") newline number-reads) (λ b t h. refl)))
@@ -173,7 +172,7 @@ unfolding equation_line
 equation-line-is s c = ap (λ e. record { equation = e }) (equation-is s (fold (eat_of s) c (ascii "e=")))
 
 pub equation-line-reads : Reads equation_line_text EquationFits read_equation_line (λ s c. (equation_line s c).next) anything
-unfolding equation_line fold
+unfolding equation_line
 equation-line-reads = after-word (ascii "e=") (then-word (ascii "\n") newline equation-reads)
 
 abbrev pub read_measure_line : List ℕ → Cursor → MeasureItem
@@ -184,5 +183,5 @@ unfolding measure_line
 measure-line-is s c = ap (λ m. record { measure = m }) (measure-is s (fold (eat_of s) c (ascii "m=")))
 
 pub measure-line-reads : Reads measure_line_text MeasureFits read_measure_line (λ s c. (measure_line s c).next) anything
-unfolding measure_line fold
+unfolding measure_line
 measure-line-reads = after-word (ascii "m=") (then-word (ascii "\n") newline measure-reads)

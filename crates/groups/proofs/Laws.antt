@@ -53,7 +53,6 @@ pub root-falls : (ps ps' : List ℕ) (x : ℕ) → Falls ps → ps' ≡ (root_of
 root-falls ps ps' x f e = rw e (root_kept ps x f).falls
 
 fold-falls : (p : ℕ) (qs ps : List ℕ) → Falls ps → Falls (fold (join_to p) ps qs)
-unfolding fold
 fold-falls p [] ps f = f
 fold-falls p (q ∷ qs) ps f = fold-falls p qs (join_to p ps q) (join-falls p ps q f)
 

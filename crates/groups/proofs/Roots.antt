@@ -78,7 +78,6 @@ module _ (t : ℕ → List ℕ) where
   -- the points qs join a
   fold-grown : (qs ps : List ℕ) (a : ℕ) → Falls ps → a < length ps → ((q : ℕ) → Memᴰ q qs → (q < length ps) × Linked t a q)
       → Grown ps (fold (join_to a) ps qs) × ((q : ℕ) → Memᴰ q qs → rt (fold (join_to a) ps qs) a ≡ rt (fold (join_to a) ps qs) q)
-  unfolding fold
   fold-grown [] ps a f i h = (grown-refl ps f, λ q m. absurd (Memᴰ.not-nil m))
   fold-grown (q ∷ qs) ps a f i h =
       let hq = h q (Memᴰ.head refl) in
@@ -98,7 +97,7 @@ module _ (t : ℕ → List ℕ) where
   all_grown : (pts ps : List ℕ) → Falls ps → ((q : ℕ) → Memᴰ q pts → q < length ps)
       → ((p q : ℕ) → Memᴰ p pts → Memᴰ q pts → Linked t p q)
       → Grown ps (join_all pts ps) × ((p q : ℕ) → Memᴰ p pts → Memᴰ q pts → rt (join_all pts ps) p ≡ rt (join_all pts ps) q)
-  unfolding join_all fold
+  unfolding join_all
   all_grown [] ps f h l = (grown-refl ps f, λ p q m. absurd (Memᴰ.not-nil m))
   all_grown (a ∷ qs) ps f h l =
       let r = fold-grown qs ps a f (h a (Memᴰ.head refl)) (λ q m. (h q (Memᴰ.tail m), l a q (Memᴰ.head refl) (Memᴰ.tail m))) in

@@ -20,7 +20,7 @@ abbrev pub tied_at : List Bool → ℕ → Bool
 tied_at s p = get_or s p false
 
 tie-sized : (pts : List ℕ) (s : List Bool) → length (fold tie_to s pts) ≡ length s
-unfolding fold tie_to
+unfolding tie_to
 tie-sized [] s = refl
 tie-sized (q ∷ pts) s = tie-sized pts (set s q true) ∙ length-set s q true
 
@@ -40,12 +40,12 @@ set-only s q p e = go (ℕ_discrete p q)
     go (no n) = inl (sym (get_or-set_other s q p true false n) ∙ e)
 
 tie-keeps : (pts : List ℕ) (s : List Bool) (p : ℕ) → tied_at s p ≡ true → tied_at (fold tie_to s pts) p ≡ true
-unfolding fold tie_to
+unfolding tie_to
 tie-keeps [] s p e = e
 tie-keeps (q ∷ pts) s p e = tie-keeps pts (set s q true) p (set_keeps s q p e)
 
 tie-all : (pts : List ℕ) (s : List Bool) (p : ℕ) → p < length s → Memᴰ p pts → tied_at (fold tie_to s pts) p ≡ true
-unfolding fold tie_to
+unfolding tie_to
 tie-all [] s p h m = absurd (Memᴰ.not-nil m)
 tie-all (q ∷ pts) s p h m =
     go (Memᴰ.cases_cons m) (λ d. tie-all pts (set s q true) p (rw (length-set s q true) h) d)
@@ -55,7 +55,7 @@ tie-all (q ∷ pts) s p h m =
     go (inr d) r = r d
 
 tie-only : (pts : List ℕ) (s : List Bool) (p : ℕ) → tied_at (fold tie_to s pts) p ≡ true → (tied_at s p ≡ true) ⊎ Memᴰ p pts
-unfolding fold tie_to
+unfolding tie_to
 tie-only [] s p e = inl e
 tie-only (q ∷ pts) s p e = go (tie-only pts (set s q true) p e)
   where

@@ -46,5 +46,5 @@ pub table :
     ≡ record { points = 0 ∷ 2 ∷ []; constraints = 1 ∷ [] } ∷ record { points = 3 ∷ 4 ∷ []; constraints = 0 ∷ [] } ∷ [])
     × (list_of (blank_active ∷ []) ≡ [])
     × (list_of (distance 2 2 ∷ []) ≡ record { points = 2 ∷ []; constraints = 0 ∷ [] } ∷ [])
-unfolding places_from numbered_of entered_of point_of list_point list_points group_of list_equation list_equations groups_of climb root_of join_to join_all self_at joined tie_to tie_all tied_in touched_in turns up_to fold
+unfolding places_from numbered_of entered_of point_of list_point list_points group_of list_equation list_equations groups_of climb root_of join_to join_all self_at joined tie_to tie_all tied_in touched_in turns up_to
 table = (refl, refl, refl, refl)

@@ -38,7 +38,7 @@ use Rattle.sketch.specs.declared.Line.{Line}
 
 -- rows are only added
 grows : (l : List Active) (t : ℕ) → t ≤ fold rows.more_rows t l
-unfolding fold rows.more_rows
+unfolding rows.more_rows
 grows [] t = le_refl t
 grows (a ∷ l) t = omega (arith, grows l (t + rows_of a.equation))
 
@@ -48,11 +48,10 @@ nothing-held = refl
 
 module _ (es : List Active) where
   here : (i : ℕ) (t : ℕ) → i < length es → fold rows.more_rows t (drop i es) ≡ fold rows.more_rows (t + rows_of (equation_at es i)) (drop (suc i) es)
-  unfolding fold rows.more_rows
+  unfolding rows.more_rows
   here i t h = rw (drop-cons es i blank_active h)
 
   ended : (i : ℕ) (t : ℕ) → length es ≤ i → fold rows.more_rows t (drop i es) ≡ t
-  unfolding fold
   ended i t h = rw (drop_of_length-le es h)
 
   no_rows : (i : ℕ) → length es ≤ i → rows_of (equation_at es i) ≡ 0
@@ -71,7 +70,7 @@ module _ (es : List Active) where
 
   -- some of the equations, each once, have no more rows than all
   some : (of : List ℕ) (g i s t : ℕ) → s ≤ t → fold (more_rows es) s (places_from i of g) ≤ fold rows.more_rows t (drop i es)
-  unfolding fold places_from more_rows
+  unfolding places_from more_rows
   some [] g i s t h = omega (arith, grows (drop i es) t)
   some (x ∷ of) g i s t h = go (eqb x g)
       (omega (arith, left i t, some of g (suc i) (s + rows_of (equation_at es i)) (t + rows_of (equation_at es i)) (omega arith)))
@@ -98,7 +97,7 @@ past es ls k p m = go (dec_lt k (length es)) m
 
 -- only equations that the build counts have a part
 counted : (es : List Active) (n : ℕ) (l : List ℕ) (s : ℕ) → ((k : ℕ) → Memᴰ k l → k < n) → fold (more_rows es) s l ≡ fold (more_rows (take n es)) s l
-unfolding fold more_rows
+unfolding more_rows
 counted es n [] s h = refl
 counted es n (k ∷ l) s h =
     let e : equation_at (take n es) k ≡ equation_at es k = ap (λ (a : Active). a.equation) (get_or-take n es k blank_active (h k (Memᴰ.head refl))) in

@@ -105,7 +105,6 @@ module _ (fixed : List Bool) (few : length fixed ≤ 40) (axis : ℕ) (es : List
 
   told : (l : List Active) → ((e : Active) → Memᴰ e l → Memᴰ e es) → (ps : List ℕ) (ρ : ℕ → ℕ) → Has fixed few ps ρ
       → ((p : ℕ) → Run axis es p (ρ p)) → Told ρ l (fold (join_equation axis fixed) ps l)
-  unfolding fold
   told [] within ps ρ has linked = record {
     roots = ρ;
     has = has;

@@ -36,5 +36,5 @@ module _ (x₀ y₀ x₁ y₁ x₂ : Float) where
   pub table :
       (level_of (three Free Free Kept) (x₀ ∷ y₀ ∷ x₁ ∷ y₁ ∷ x₂ ∷ 5·0 ∷ []) ≡ x₀ ∷ 5·0 ∷ x₁ ∷ 5·0 ∷ x₂ ∷ 5·0 ∷ [])
       × (level_of (three Free Kept Kept) (x₀ ∷ y₀ ∷ x₁ ∷ 3·0 ∷ x₂ ∷ 7·0 ∷ []) ≡ x₀ ∷ 3·0 ∷ x₁ ∷ 3·0 ∷ x₂ ∷ 7·0 ∷ [])
-  unfolding turns up_to whiles while_to fold fixed_of join_equation joined level_point level_points level_axis level_of halved find_of a_wins join_to self_at
+  unfolding turns up_to whiles while_to fixed_of join_equation joined level_point level_points level_axis level_of halved find_of a_wins join_to self_at
   table = (refl, refl)

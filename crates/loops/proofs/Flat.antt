@@ -43,7 +43,7 @@ module _ {A B : Type 0} (f : A → List B) where
 -- going over the parts is going over the whole
 module _ {A S K : Type 0} (f : S → A → S) (g : K → List A) (h : S → K → S) (turn : (s : S) (k : K) → h s k ≡ fold f s (g k)) where
   pub fold-parts : (ks : List K) (s : S) → fold h s ks ≡ fold f s (flat_map g ks)
-  unfolding fold flat_map
+  unfolding flat_map
   fold-parts [] s = refl
   fold-parts (k ∷ ks) s = fold-parts ks (h s k) ∙ ap (λ t. fold f t (flat_map g ks)) (turn s k) ∙ sym (fold-append f s (g k) (flat_map g ks))
 

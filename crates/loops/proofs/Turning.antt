@@ -128,28 +128,22 @@ rest-next d l i h = rw (add-one, drop-cons l i d h)
 
 module _ {A S : Type 0} where
   pub fold_next : (d : A) (f : S → A → S) (l : List A) (i : ℕ) (s s' R : S) → i < length l → s' ≡ f s (get_or l i d) → fold f s (drop i l) ≡ R → fold f s' (drop (i + 1) l) ≡ R
-  unfolding fold
   fold_next d f l i s s' R h e r = rw e (rw (rest-next d l i h) at r)
 
   pub fold_done : (f : S → A → S) (l : List A) (i : ℕ) (s R : S) → length l ≤ i → fold f s (drop i l) ≡ R → s ≡ R
-  unfolding fold
   fold_done f l i s R h r = rw (drop_of_length-le l h) at r
 
   pub fold-append : (f : S → A → S) (s : S) (l m : List A) → fold f s (l ++ m) ≡ fold f (fold f s l) m
-  unfolding fold
   fold-append f s [] m = refl
   fold-append f s (x ∷ l) m = fold-append f (f s x) l m
 
 module _ {A : Type 0} where
   -- the test is a function that answers b
   pub every-next : (d : A) (p : A → Bool) (l : List A) (i : ℕ) (b R : Bool) → i < length l → b ≡ p (get_or l i d) → b ≡ true → every p (drop i l) ≡ R → every p (drop (i + 1) l) ≡ R
-  unfolding every
   every-next d p l i b R h e t r = rw (sym e ∙ t) at (rw (rest-next d l i h) at r)
 
   pub every-stop : (d : A) (p : A → Bool) (l : List A) (i : ℕ) (b R : Bool) → i < length l → b ≡ p (get_or l i d) → b ≡ false → every p (drop i l) ≡ R → false ≡ R
-  unfolding every
   every-stop d p l i b R h e t r = rw (sym e ∙ t) at (rw (rest-next d l i h) at r)
 
   pub every-done : (p : A → Bool) (l : List A) (i : ℕ) (R : Bool) → length l ≤ i → every p (drop i l) ≡ R → true ≡ R
-  unfolding every
   every-done p l i R h r = rw (drop_of_length-le l h) at r

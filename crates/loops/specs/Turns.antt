@@ -3,10 +3,12 @@
 --     down_to n f s          for i in (0..n).rev() { s = f(i, s) }
 --     try_to hi lo f s       the same as up_to, where a turn may stop the whole
 --     while_to hi lo p f s   the same as up_to, left with the state as it is where a turn's test p(i, s) fails
---     fold f s l            for x in l { s = f(s, x) }
---     every p l             whether p holds of each element
--- Their laws are proofs/Turning.antt's.
-use Rattle.std.specs.Prelude.{ℕ, zero, suc, ◌+◌, ◌-◌, Bool, true, false, cond, List, [], ◌∷◌}
+--     fold f s l            for x in l { s = f(s, x) }, and the iterator's own `fold`
+--     every p l             whether p holds of each element, as the iterator's `all`
+-- The last two are std's words, so that a chain of iterators is proved with no file. The laws of all are proofs/Turning.antt's.
+use Rattle.std.specs.Prelude.{ℕ, zero, suc, ◌+◌, ◌-◌, Bool, true, false, cond, List}
+use Rattle.std.specs.List.{list_all}
+pub use Rattle.std.specs.List.{fold}
 
 -- what a turn that may stop the loop gives
 pub data Try (S : Type 0) : Type 0 where
@@ -56,12 +58,5 @@ module _ {S : Type 0} where
   unfoldable pub while_to : ℕ → ℕ → (ℕ → S → Bool) → (ℕ → S → S) → S → S
   while_to hi lo p f s = whiles (hi - lo) lo p f s
 
-module _ {A S : Type 0} where
-  unfoldable pub fold : (S → A → S) → S → List A → S
-  fold f s [] = s
-  fold f s (x ∷ l) = fold f (f s x) l
-
-module _ {A : Type 0} where
-  unfoldable pub every : (A → Bool) → List A → Bool
-  every p [] = true
-  every p (x ∷ l) = cond (p x) (every p l) false
+abbrev pub every : {A : Type 0} → (A → Bool) → List A → Bool
+every p l = list_all p l

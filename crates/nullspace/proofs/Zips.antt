@@ -53,13 +53,13 @@ module _ (n : ℕ) (v c : List Float) (long : length v ≡ n) (same : length c �
   products-long = zip-long ◌⊗◌ v c (omega arith) ∙ long
 
   one-more : (i : ℕ) (s : Float) → i < n → s ≡ fold ◌⊕◌ zero⁻ (take i products) → add_product v c i s ≡ fold ◌⊕◌ zero⁻ (take (i + 1) products)
-  unfolding add_product fold
+  unfolding add_product
   one-more i s h e =
       rw (e, ← zip_get ◌⊗◌ i v c (omega arith) (omega arith), add-one, take-suc products i nan (rw products-long h))
       (sym (fold-append ◌⊕◌ zero⁻ (take i products) (get_or products i nan ∷ [])))
 
   pub zip-dot : up_to n 0 (add_product v c) zero⁻ ≡ dot_of v c
-  unfolding dot_of fold
+  unfolding dot_of
   zip-dot =
       let all : length products ≤ n = omega (arith, products-long) in
       up_to-keeps (λ i s. s ≡ fold ◌⊕◌ zero⁻ (take i products)) (add_product v c) n one-more 0 zero⁻ (omega arith) refl ∙ ap (fold ◌⊕◌ zero⁻) (take_all n products all)

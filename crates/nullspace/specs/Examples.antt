@@ -31,5 +31,5 @@ pub worked :
     × Found 2 3 (zero⁺ ∷ zero⁺ ∷ zero⁺ ∷ zero⁺ ∷ three ∷ four ∷ []) 1 ((bits 0xbfe3_3333_3333_3333 ∷ bits 0x3fe4_7ae1_47ae_147b ∷ bits 0xbfde_b851_eb85_1eb8 ∷ []) ∷ (bits 0xbfe9_9999_9999_999a ∷ bits 0xbfde_b851_eb85_1eb8 ∷ bits 0x3fd7_0a3d_70a3_d708 ∷ []) ∷ [])
     × Found 2 3 (one ∷ one ∷ zero⁺ ∷ zero⁺ ∷ one ∷ one ∷ []) 2 ((bits 0x3fe2_79a7_4590_331c ∷ bits 0xbfe2_79a7_4590_331c ∷ bits 0x3fe2_79a7_4590_331c ∷ []) ∷ [])
     × Found 2 3 (one ∷ two ∷ three ∷ two ∷ four ∷ bits 0x4018_0000_0000_0000 ∷ []) 1 ((bits 0xbfe1_1ace_e560_242a ∷ bits 0x3fe8_c90c_2349_de2e ∷ bits 0xbfd5_a4db_9622_6577 ∷ []) ∷ (bits 0xbfe9_a836_5810_363f ∷ bits 0xbfd5_a4db_9622_6578 ∷ bits 0x3fdf_88b6_9ecc_67cc ∷ []) ∷ [])
-unfolding basis_of basis_vector reflect_by decomposed turn_of reflect_from reflector_of away swapped ended best_of longer norm_of reflect_of less_all dot_of cols_of unit_at unit_of scaled_by collect push norm2_of add_square sqrt_of fold while_to whiles up_to turns zip_with magnitude_of is_nan to_bits of_bits neg add sub mul div lt eq ne le
+unfolding basis_of basis_vector reflect_by decomposed turn_of reflect_from reflector_of away swapped ended best_of longer norm_of reflect_of less_all dot_of cols_of unit_at unit_of scaled_by collect push norm2_of add_square sqrt_of while_to whiles up_to turns zip_with magnitude_of is_nan to_bits of_bits neg add sub mul div lt eq ne le
 worked = (refl, refl, refl, refl)

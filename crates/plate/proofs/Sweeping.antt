@@ -22,7 +22,7 @@ use Rattle.plate.specs.Worst.{residual_of, residuals_of}
 
 -- what the code does with the values that it holds is done with every row
 pub each_row : (m : Float) (rs : List Row) → length rs ≤ 2 → larger_held m (values_of rs) ≡ fold larger_abs m (map residual_of rs)
-unfolding larger_held values_of fold
+unfolding larger_held values_of
 each_row m [] h = refl
 each_row m (a ∷ []) h = refl
 each_row m (a ∷ c ∷ []) h = refl

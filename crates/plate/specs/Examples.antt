@@ -31,15 +31,15 @@ abbrev 9·0 : Float
 9·0 = of_bits binary64 0x4022_0000_0000_0000
 
 pub no_row : (points : List Float) → worst_of (build Equation.Held) points ≡ zero⁺
-unfolding worst_of residuals_of max_abs_of fold flat_map rows_of_equation
+unfolding worst_of residuals_of max_abs_of flat_map rows_of_equation
 no_row points = refl
 
 -- (1, 5) and (2, 9) lie half a unit apart along x and two along y
 pub second-row : worst_of (build (Equation.Coincident (record { 0 = 0 }) (record { 0 = 1 }))) (one ∷ 5·0 ∷ two ∷ 9·0 ∷ []) ≡ two
-unfolding turns up_to fold flat_map residuals_of worst_of max_abs_of larger_abs max_of rows_of_equation coincident_of at_of scale_at all_scaled_of self_at of_bits add sub mul div neg lt is_nan
+unfolding turns up_to flat_map residuals_of worst_of max_abs_of larger_abs max_of rows_of_equation coincident_of at_of scale_at all_scaled_of self_at of_bits add sub mul div neg lt is_nan
 second-row = refl
 
 -- the line has no direction, so whether it is parallel to itself is not a number
 pub not-finite : worst_of (build (Equation.Parallel (record { 0 = 0 }) (record { 0 = 0 }))) (one ∷ one ∷ one ∷ one ∷ []) ≡ inf false
-unfolding turns up_to fold flat_map residuals_of worst_of max_abs_of larger_abs max_of rows_of_equation parallel_of unit_from_of norm_of sqrt_of at_of scale_at all_scaled_of self_at of_bits add sub mul div neg lt is_nan
+unfolding turns up_to flat_map residuals_of worst_of max_abs_of larger_abs max_of rows_of_equation parallel_of unit_from_of norm_of sqrt_of at_of scale_at all_scaled_of self_at of_bits add sub mul div neg lt is_nan
 not-finite = refl

@@ -13,7 +13,6 @@ use Rattle.reply.specs.Laid.{LaidBytes, next_byte, laying}
 use Rattle.reply.specs.Reply.{rising}
 
 laying-one : (b : ℕ) (s : LaidBytes) → laying (b ∷ []) s ≡ next_byte s b
-unfolding fold
 laying-one b s = refl
 
 module _ (s t u : LaidBytes) where
@@ -35,7 +34,7 @@ more-digits s t u n b h r g e f =
     rw (decimal-last 18 n h, ← e) (last s t u (decimal 18 (n / 10)) b (rw (decimal-more 18 19 (n / 10) (omega arith) (omega arith)) at g) f)
 
 pub no-hex : (s : LaidBytes) (k n : ℕ) → k ≡ 0 → s ≡ laying (hexadecimal k n) s
-unfolding hexadecimal fold
+unfolding hexadecimal
 no-hex s k n e = rw e
 
 pub more-hex : (s t u : LaidBytes) (n b k : ℕ) → (k ≡ 0 → ⊥) → t ≡ laying (hexadecimal (k - 1) (n / 16)) s → b ≡ hex_digit (n % 16) → u ≡ next_byte t b
@@ -49,7 +48,7 @@ more-hex s t u n b (suc k) z g e f =
 
 module _ (f : ℕ → List ℕ) where
   pub rising-start : (s : LaidBytes) → s ≡ laying (rising f 0) s
-  unfolding rising fold
+  unfolding rising
   rising-start s = refl
 
   rising-more : (i : ℕ) → rising f (i + 1) ≡ rising f i ++ f i

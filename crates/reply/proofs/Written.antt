@@ -17,11 +17,9 @@ unfolding next_byte
 one-more n b s h = rw (lt-ltb n 8192 h)
 
 first-laid : (b : ℕ) (bs : List ℕ) (n : ℕ) (s : List ℕ) → n < 8192 → laying (b ∷ bs) (laid n s) ≡ laying bs (laid (n + 1) (set s n b))
-unfolding fold
 first-laid b bs n s h = rw (one-more n b s h)
 
 nothing-laid : (n : ℕ) (s : List ℕ) → laying [] (laid n s) ≡ laid n s
-unfolding fold
 nothing-laid n s = refl
 
 -- what a state says, taken apart

@@ -32,7 +32,7 @@ use Rattle.rounds.specs.Problem.{more_rows, row_count, dense_row, rows_for, valu
 
 module _ (es : List Active) (ls : List Line) (places : List ℕ) (x : List Float) where
   counted : (ks : List ℕ) (n : ℕ) → n + length (flat_map (rows_at es ls places x) ks) ≡ fold (more_rows es) n ks
-  unfolding flat_map fold more_rows rows_at
+  unfolding flat_map more_rows rows_at
   counted [] n = add-zero n
   counted (k ∷ ks) n =
       let rs = rows_of_equation ls (at_of places x) (equation_at es k) in
@@ -42,7 +42,7 @@ module _ (es : List Active) (ls : List Line) (places : List ℕ) (x : List Float
       ∙ counted ks (n + rows_of (equation_at es k))
 
 rows-most : (es : List Active) (ks : List ℕ) (n : ℕ) → fold (more_rows es) n ks ≤ n + 2 * length ks
-unfolding fold more_rows
+unfolding more_rows
 rows-most es [] n = omega arith
 rows-most es (k ∷ ks) n =
     let h = rows-most es ks (n + rows_of (equation_at es k)) in
@@ -58,7 +58,7 @@ rows_few es chosen h = omega (arith, rows-most es chosen 0)
 
 values-laid : (rows : List Row) (i : ℕ) (p t : List Float) → length p ≡ i → length rows ≤ length t
     → fold next_value (laid i (p ++ t)) rows ≡ laid (i + length rows) (p ++ (map (λ (row : Row). row.value) rows ++ drop (length rows) t))
-unfolding fold next_value
+unfolding next_value
 values-laid [] i p t e h = rw add-zero
 values-laid (row ∷ rows) i p [] e h = absurd (omega arith)
 values-laid (row ∷ rows) i p (v ∷ t) e h =
@@ -139,13 +139,11 @@ module _ (places columns : List ℕ) (n base : ℕ) (p : List Float) (e : length
 
   entries-laid : (gs : List Entry) (d : List Float) → length d ≡ n
       → fold (add_entry places columns n base) (p ++ (d ++ t)) gs ≡ p ++ (fold (add_entry places columns n 0) d gs ++ t)
-  unfolding fold
   entries-laid [] d l = refl
   entries-laid (a ∷ gs) d l =
       ap (λ s. fold (add_entry places columns n base) s gs) (entry-laid d a l) ∙ entries-laid gs (add_entry places columns n 0 d a) (entry-long d a l)
 
   entries-long : (gs : List Entry) (d : List Float) → length d ≡ n → length (fold (add_entry places columns n 0) d gs) ≡ n
-  unfolding fold
   entries-long [] d l = l
   entries-long (a ∷ gs) d l = entries-long gs (add_entry places columns n 0 d a) (entry-long d a l)
 
@@ -183,7 +181,7 @@ module _ (places columns : List ℕ) (n : ℕ) where
 
   table-laid : (rows : List Row) (i : ℕ) (p t : List Float) → length p ≡ i * n → length rows * n ≤ length t
       → fold (next_row places columns n) (laid i (p ++ t)) rows ≡ laid (i + length rows) (p ++ (flat_map dense rows ++ drop (length rows * n) t))
-  unfolding fold next_row flat_map
+  unfolding next_row flat_map
   table-laid [] i p t e h = rw (add-zero, zero-mul)
   table-laid (row ∷ rows) i p t e h =
       let m : suc (length rows) * n ≡ n + length rows * n = suc-mul (length rows) n ∙ add_comm (length rows * n) n in

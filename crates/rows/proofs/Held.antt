@@ -19,13 +19,13 @@ use Rattle.rows.specs.declared.answer.Values.{Values}
 
 module _ (row : ℕ) (r : List Float) where
   pub no-values : (rs : List Row) (v : Values) → v ≡ values_of rs → v.count ≡ 0 → laid row r ≡ fold next_value (laid row r) rs
-  unfolding fold values_of
+  unfolding values_of
   no-values [] v e h = refl
   no-values (a ∷ rs) v e h = absurd (let z : suc (length rs) ≡ 0 = sym (ap (λ (w : Values). w.count) e) ∙ h in omega arith)
 
   pub one_value : (rs : List Row) (v : Values) (r' : List Float) → v ≡ values_of rs → v.count ≡ 1 → r' ≡ set r row v.first
       → laid (row + 1) r' ≡ fold next_value (laid row r) rs
-  unfolding fold values_of next_value
+  unfolding values_of next_value
   one_value [] v r' e h q = absurd (let z : ◌≡◌ {A = ℕ} 0 1 = sym (ap (λ (w : Values). w.count) e) ∙ h in omega arith)
   one_value (a ∷ []) v r' e h q = rw (q, e)
   one_value (a ∷ b ∷ rs) v r' e h q =
@@ -33,7 +33,7 @@ module _ (row : ℕ) (r : List Float) where
 
   pub two-values : (rs : List Row) (v : Values) (r' r'' : List Float) → length rs ≤ 2 → v ≡ values_of rs → (v.count ≡ 0 → ⊥) → (v.count ≡ 1 → ⊥)
       → r' ≡ set r row v.first → r'' ≡ set r' (row + 1) v.second → laid (row + 1 + 1) r'' ≡ fold next_value (laid row r) rs
-  unfolding fold values_of next_value
+  unfolding values_of next_value
   two-values [] v r' r'' b e h k q p = absurd (h (ap (λ (w : Values). w.count) e))
   two-values (a ∷ []) v r' r'' b e h k q p = absurd (k (ap (λ (w : Values). w.count) e))
   two-values (a ∷ c ∷ []) v r' r'' b e h k q p = rw (p, q, e)
@@ -53,7 +53,7 @@ module _ (es : List Active) (ls : List Line) (P : List ℕ) (x : List Float) (ch
   values-turn row row' r r' e R p q t = fold_next 0 (values_next es ls P x) chosen i (laid row r) (laid row' r') R h (rw p at q) t
 
   no_value : (row : ℕ) (r : List Float) → laid row r ≡ fold next_value (laid row r) (rows_of_equation ls (at_of P x) Equation.Held)
-  unfolding fold rows_of_equation
+  unfolding rows_of_equation
   no_value row r = refl
 
   pub values-past : (row : ℕ) (r : List Float) (R : Laid) → length es ≤ get_or chosen i 0

@@ -1,6 +1,6 @@
 -- `bounded-chain`, `found-chain`: an item's fields as the code looks at them, which joins the tests of those that have one, is what 4 and
 -- 5 ask of all of them. Assumes nothing.
-use mathlib.Core.Bool.{Bool, true, false, cond, ◌&&◌}
+use mathlib.Core.Bool.{Bool, true, false, ◌&&◌}
 use mathlib.Core.List.{List, [], ◌∷◌, ◌++◌}
 use mathlib.Core.Path.{◌≡◌, refl, sym, ◌∙◌}
 use Prim.Native.Nat.{ℕ}
@@ -25,33 +25,26 @@ tests q (x ∷ l) = q x ++ tests q l
 abbrev same : Bool → Bool
 same b = b
 
-one : (t : Bool) → cond t true false ≡ t
+one : (t : Bool) → t && true ≡ t
 one true = refl
 one false = refl
 
-also-is : (t : Bool) (l : List Bool) → also t l ≡ cond t (every same l) false
-unfolding every
+also-is : (t : Bool) (l : List Bool) → also t l ≡ t && every same l
 also-is t [] = sym (one t)
 also-is t (u ∷ l) = also-is (t && u) l ∙ go t
   where
-    go : (t : Bool) → cond (t && u) (every same l) false ≡ cond t (cond u (every same l) false) false
+    go : (t : Bool) → (t && u) && every same l ≡ t && (u && every same l)
     go true = refl
     go false = refl
 
 all-is : (l : List Bool) → all l ≡ every same l
-unfolding every
 all-is [] = refl
 all-is (t ∷ l) = also-is t l
 
 module _ {A : Type 0} (p : A → Bool) (q : A → List Bool) (alike : (x : A) → every same (q x) ≡ p x) where
   each : (l : List A) → every same (tests q l) ≡ every p l
-  unfolding every
   each [] = refl
-  each (x ∷ l) = every_append same (q x) (tests q l) ∙ rw (alike x, each l) (go (p x))
-    where
-      go : (b : Bool) → b && every p l ≡ cond b (every p l) false
-      go true = refl
-      go false = refl
+  each (x ∷ l) = every_append same (q x) (tests q l) ∙ rw (alike x, each l)
 
   chain : (l : List A) → all (tests q l) ≡ every p l
   chain l = all-is (tests q l) ∙ each l
@@ -67,7 +60,6 @@ bounds (radius r) = bounded_rad r ∷ []
 bounds (contact k) = bounded_contact k ∷ []
 
 bounds-are : (f : Field) → every same (bounds f) ≡ bounded_field f
-unfolding every
 bounds-are (point p) = refl
 bounds-are (line l) = refl
 bounds-are (value v) = one (bounded v)
@@ -92,7 +84,6 @@ module _ (n m : ℕ) where
   finds (contact k) = []
 
   finds-are : (f : Field) → every same (finds f) ≡ found_field n m f
-  unfolding every
   finds-are (point p) = one (is_point n p)
   finds-are (line l) = one (is_line m l)
   finds-are (value v) = refl

@@ -3,7 +3,7 @@
 --     every_true                  over a list of all that there is
 --     every-cons, every_of        it holds of each, so of one
 --     every-not, not-every        it fails where it fails of one
-use mathlib.Core.Bool.{Bool, true, false, cond, ◌&&◌}
+use mathlib.Core.Bool.{Bool, true, false, ◌&&◌}
 use mathlib.Core.List.Memᴰ
 use mathlib.Core.List.{List, [], ◌∷◌, ◌++◌, flat_map, Memᴰ}
 use mathlib.Core.Logic.{◌⊎◌, inl, inr}
@@ -13,43 +13,39 @@ use Rattle.loops.specs.Turns.{every}
 
 module _ {A : Type 0} (p : A → Bool) where
   pub every_append : (l m : List A) → every p (l ++ m) ≡ every p l && every p m
-  unfolding every
   every_append [] m = refl
   every_append (x ∷ l) m = go (p x) (every_append l m)
     where
-      go : (b : Bool) → every p (l ++ m) ≡ every p l && every p m → cond b (every p (l ++ m)) false ≡ cond b (every p l) false && every p m
+      go : (b : Bool) → every p (l ++ m) ≡ every p l && every p m → b && every p (l ++ m) ≡ (b && every p l) && every p m
       go true r = r
       go false r = refl
 
   pub every-flat : {B : Type 0} (f : B → List A) (l : List B) → every p (flat_map f l) ≡ every (λ x. every p (f x)) l
-  unfolding every flat_map
+  unfolding flat_map
   every-flat f [] = refl
   every-flat f (x ∷ l) = every_append (f x) (flat_map f l) ∙ go (every p (f x)) (every-flat f l)
     where
-      go : (b : Bool) → every p (flat_map f l) ≡ every (λ x. every p (f x)) l → b && every p (flat_map f l) ≡ cond b (every (λ x. every p (f x)) l) false
+      go : (b : Bool) → every p (flat_map f l) ≡ every (λ x. every p (f x)) l → b && every p (flat_map f l) ≡ b && every (λ x. every p (f x)) l
       go true r = r
       go false r = refl
 
   pub every_true : (l : List A) → ((x : A) → p x ≡ true) → every p l ≡ true
-  unfolding every
   every_true [] h = refl
   every_true (x ∷ l) h = rw (h x) (every_true l h)
 
   pub every-not : (l : List A) → every p l ≡ false → (x : A) × Memᴰ x l × (p x ≡ false)
-  unfolding every
   every-not [] e = absurd (subst T e tt)
   every-not (x ∷ l) e = go (p x) refl e (every-not l)
     where
-      go : (b : Bool) → p x ≡ b → cond b (every p l) false ≡ false → (every p l ≡ false → (y : A) × Memᴰ y l × (p y ≡ false))
+      go : (b : Bool) → p x ≡ b → b && every p l ≡ false → (every p l ≡ false → (y : A) × Memᴰ y l × (p y ≡ false))
           → (y : A) × Memᴰ y (x ∷ l) × (p y ≡ false)
       go true q e r = let s = r e in (s.0, Memᴰ.tail s.1, s.2)
       go false q e r = (x, Memᴰ.head refl, q)
 
   pub every-cons : (x : A) (l : List A) → every p (x ∷ l) ≡ true → (p x ≡ true) × (every p l ≡ true)
-  unfolding every
   every-cons x l = go (p x)
     where
-      go : (b : Bool) → cond b (every p l) false ≡ true → (b ≡ true) × (every p l ≡ true)
+      go : (b : Bool) → b && every p l ≡ true → (b ≡ true) × (every p l ≡ true)
       go true e = (refl, e)
       go false e = absurd (subst T (sym e) tt)
 

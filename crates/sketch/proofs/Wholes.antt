@@ -61,7 +61,6 @@ without-points h p l e m t u = rw (t, u)
 
 -- a line has no number that is bounded
 line-bounded : (l : Line) → every bounded_field (line_fields l) ≡ true
-unfolding every
 line-bounded l = refl
 
 module _ (b : Build) where
@@ -80,18 +79,15 @@ module _ (b : Build) where
 
   -- the first numbers and the points refer to nothing
   head-found : head b (found_in b) ≡ true
-  unfolding every
   head-found = refl
 
   state-found : (v : Vec2) (s : State) → every (found_in b) (place_fields v ++ state_fields s) ≡ true
-  unfolding every
   state-found v Free = refl
   state-found v Kept = refl
   state-found v (Placed w) = refl
 
   pub found-whole : every (found_line b.point_count) (lines_of b) && every (found_active b.point_count b.line_count) (equations_of b)
       && every (found_measured b.point_count b.line_count) (measures_of b) ≡ found_build b
-  unfolding every
   found-whole =
       without-points _ (points b (found_in b)) _ _ _ head-found
       (every_true (λ a. every (found_in b) (point_fields a)) (points_of b) (λ p. state-found p.start p.state))

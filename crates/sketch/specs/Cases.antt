@@ -40,7 +40,7 @@ build size n m k e = record {
 }
 
 forty-points : check_of (build one 40 40 40 Held) ≡ Passes
-unfolding build check_of origin le lt eq neg of_bits every flat_map fold more_rows rows_of
+unfolding build check_of origin le lt eq neg of_bits flat_map more_rows rows_of
 forty-points = refl
 
 forty-one-points : check_of (build one 41 40 40 Held) ≡ Ends TooMany
@@ -48,11 +48,11 @@ unfolding build check_of
 forty-one-points = refl
 
 least_size : check_of (build 1/1024 1 0 0 Held) ≡ Passes
-unfolding build check_of origin le lt eq neg of_bits every flat_map fold
+unfolding build check_of origin le lt eq neg of_bits flat_map
 least_size = refl
 
 no_size : check_of (build zero⁺ 1 0 0 Held) ≡ Ends OutOfBounds
-unfolding build check_of origin le lt eq neg of_bits every flat_map fold
+unfolding build check_of origin le lt eq neg of_bits flat_map
 no_size = refl
 
 -- Every number, side, axis and contact of the equations and of the measures, in turn: a NaN, a side that is neither 1 nor −1 and an axis
@@ -89,43 +89,43 @@ measures s a =
     ∷ []
 
 bad-equations : map (λ e. check_of (build one 1 1 1 e)) (equations nan half 2) ≡ replicate 14 (Ends OutOfBounds)
-unfolding build check_of equations origin le lt eq neg of_bits every flat_map fold
+unfolding build check_of equations origin le lt eq neg of_bits flat_map
 bad-equations = refl
 
 nan-sides : map (λ e. check_of (build one 1 1 1 e)) (equations nan nan 2) ≡ replicate 14 (Ends OutOfBounds)
-unfolding build check_of equations origin le lt eq neg of_bits every flat_map fold
+unfolding build check_of equations origin le lt eq neg of_bits flat_map
 nan-sides = refl
 
 good-equations : map (λ e. check_of (build one 1 1 1 e)) (equations million (neg one) 1) ≡ replicate 14 Passes
-unfolding build check_of equations origin le lt eq neg of_bits every flat_map fold more_rows rows_of
+unfolding build check_of equations origin le lt eq neg of_bits flat_map more_rows rows_of
 good-equations = refl
 
 measured : Measure → Build
 measured d = sample origin one (blank_point ∷ []) (no_line ∷ []) [] (record { measure = d } ∷ [])
 
 bad-measures : map (λ d. check_of (measured d)) (measures half 2 ++ measures nan 2) ≡ replicate 6 (Ends OutOfBounds)
-unfolding measured measures check_of origin le lt eq neg of_bits every flat_map fold
+unfolding measured measures check_of origin le lt eq neg of_bits flat_map
 bad-measures = refl
 
 good-measures : map (λ d. check_of (measured d)) (measures (neg one) 1) ≡ replicate 3 Passes
-unfolding measured measures check_of origin le lt eq neg of_bits every flat_map fold
+unfolding measured measures check_of origin le lt eq neg of_bits flat_map
 good-measures = refl
 
 -- 4 before 5: a NaN in an equation whose points are not there
 four-first : check_of (build one 0 0 1 (Distance no_point no_point nan)) ≡ Ends OutOfBounds
-unfolding build check_of origin le lt eq neg of_bits every flat_map fold
+unfolding build check_of origin le lt eq neg of_bits flat_map
 four-first = refl
 
 -- a line number is held to the lines, of which there are none
 no-line : check_of (build one 40 0 1 (Length (record { 0 = 0 }) one)) ≡ Ends NoSuchItem
-unfolding build check_of origin le lt eq neg of_bits every flat_map fold
+unfolding build check_of origin le lt eq neg of_bits flat_map
 no-line = refl
 
 -- two rows each: 32 equations have 64, 33 have 66
 rows-at-most : check_of (build one 1 0 32 (Coincident no_point no_point)) ≡ Passes
-unfolding build check_of origin le lt eq neg of_bits every flat_map fold more_rows rows_of
+unfolding build check_of origin le lt eq neg of_bits flat_map more_rows rows_of
 rows-at-most = refl
 
 rows-too-many : check_of (build one 1 0 33 (Coincident no_point no_point)) ≡ Ends TooManyRows
-unfolding build check_of origin le lt eq neg of_bits every flat_map fold more_rows rows_of
+unfolding build check_of origin le lt eq neg of_bits flat_map more_rows rows_of
 rows-too-many = refl

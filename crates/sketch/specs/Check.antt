@@ -1,13 +1,11 @@
 -- What a library build ends in before its fit: document 01's 3, 4, 5 and 6, in 01's order.
-use Rattle.std.specs.Prelude.{Bool, true, false, not, ◌||◌, ◌≡◌, ℕ, ltb}
+use Rattle.std.specs.Prelude.{Bool, true, false, not, ◌||◌, ◌≡◌, ℕ, ltb, Result, Ok, Err}
 use Rattle.loops.specs.Numbers as number
 use Rattle.loops.specs.Numbers.{Meaning, refused, values}
 use Rattle.sketch.specs.Indices.{found_build}
 use Rattle.sketch.specs.Numbers.{bounded_build}
 use Rattle.sketch.specs.Rows.{rows_of_build}
 use Rattle.sketch.specs.declared.Build.{Build}
-use Rattle.sketch.specs.declared.Checked.{Checked}
-use Rattle.sketch.specs.declared.Checked.TheVariants.{Passes, Ends}
 use Rattle.sketch.specs.declared.Ending.{Ending}
 use Rattle.sketch.specs.declared.Ending.TheVariants.{Fitted, TooLong, BadForm, TooMany, OutOfBounds, NoSuchItem, TooManyRows, NotConverged, TooShort}
 
@@ -22,6 +20,10 @@ number_of NoSuchItem = number.no_such_item
 number_of TooManyRows = number.too_many_rows
 number_of NotConverged = number.not_converged
 number_of TooShort = number.too_short
+
+-- what the check answers: nothing, where the build passes, or what it ends in
+abbrev pub Checked : Type 0
+Checked = Result (Unit {0}) Ending
 
 -- 3: a count over its bound
 abbrev pub over_bound : Build → Bool
@@ -42,11 +44,11 @@ over_rows b = ltb 64 (rows_of_build b)
 
 -- the first of the four that holds decides
 abbrev pub ordered : Bool → Bool → Bool → Bool → Checked
-ordered true u m r = Ends TooMany
-ordered false true m r = Ends OutOfBounds
-ordered false false true r = Ends NoSuchItem
-ordered false false false true = Ends TooManyRows
-ordered false false false false = Passes
+ordered true u m r = Err TooMany
+ordered false true m r = Err OutOfBounds
+ordered false false true r = Err NoSuchItem
+ordered false false false true = Err TooManyRows
+ordered false false false false = Ok tt
 
 unfoldable pub check_of : Build → Checked
 check_of b = ordered (over_bound b) (out_of_bounds b) (refers_to_nothing b) (over_rows b)
@@ -55,8 +57,8 @@ check_of b = ordered (over_bound b) (out_of_bounds b) (refers_to_nothing b) (ove
 
 -- what an answer of `check` on b says: the number that b ends in, or b as it is where it passes
 abbrev pub meaning_of : Build → Checked → Meaning Build
-meaning_of b (Ends e) = refused (number_of e)
-meaning_of b Passes = values b
+meaning_of b (Err e) = refused (number_of e)
+meaning_of b (Ok v) = values b
 
 -- the number of the first of 01's rows that holds, or the build where none does
 abbrev pub numbered : Build → Bool → Bool → Bool → Bool → Meaning Build

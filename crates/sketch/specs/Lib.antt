@@ -11,3 +11,4 @@ pub mod Made
 pub mod Given
 pub mod Looked
 pub mod Cases
+pub mod Fixed

@@ -1,10 +1,11 @@
 // The residual rows of an equation and of a build.
-ghost use Rattle.std.specs.Prelude.{◌≡◌, ◌≤◌, take};
+ghost use Rattle.std.specs.Prelude.{◌≡◌, ◌≤◌, length};
 ghost use Rattle.loops.specs.Turns.{fold};
 ghost use Rattle.sketch.specs.Rows.{rows_of, more_rows};
 
 use crate::{Active, Equation};
 
+#[tactic(auto, unfolding(crate::specs::Rows::rows_of))]
 pub fn rows(e: Equation) -> usize
     ensures { result ≡ rows_of e }
 {
@@ -33,16 +34,14 @@ pub fn rows(e: Equation) -> usize
     }
 }
 
-// The rows of the first n equations.
-pub(crate) fn rows_of_all(equations: [Active; 40], n: usize) -> usize
-    requires { n ≤ 40 }
-    ensures { result ≡ fold more_rows 0 (take n equations) }
+// The rows of all the equations, of which there are few enough that the sum fits.
+pub(crate) fn rows_of_all(equations: &[Active]) -> usize
+    requires { length equations.now ≤ 40 }
+    ensures { result ≡ fold more_rows 0 equations.now }
 {
     let mut total = 0;
-    for i in 0..n {
-        let a = equations[i];
-        let e = a.equation;
-        total += rows(e);
+    for a in equations {
+        total += rows(a.equation);
     }
     total
 }

@@ -1,11 +1,10 @@
 // Whether what a build refers to is there, among n points and m lines.
-ghost use Rattle.std.specs.Prelude.{◌≡◌, ◌≤◌, take};
-ghost use Rattle.loops.specs.Turns.{every};
-ghost use Rattle.sketch.specs.Indices.{found_line, found_rad, found_equation, found_active, found_measure, found_measured};
+ghost use Rattle.std.specs.Prelude.{◌≡◌};
+ghost use Rattle.sketch.specs.Indices.{found_line, found_rad, found_equation, found_measure};
 
-use crate::{Active, Equation, Line, Measure, Measured, Rad};
+use crate::{Equation, Line, Measure, Rad};
 
-fn line_found(l: Line, n: usize) -> bool
+pub(crate) fn line_found(l: Line, n: usize) -> bool
     ensures { result ≡ found_line n l }
 {
     (l.from.0 < n) & (l.to.0 < n)
@@ -20,7 +19,7 @@ fn rad_found(r: Rad, n: usize) -> bool
     }
 }
 
-fn equation_found(e: Equation, n: usize, m: usize) -> bool
+pub(crate) fn equation_found(e: Equation, n: usize, m: usize) -> bool
     ensures { result ≡ found_equation n m e }
 {
     match e {
@@ -50,7 +49,7 @@ fn equation_found(e: Equation, n: usize, m: usize) -> bool
     }
 }
 
-fn measure_found(d: Measure, n: usize, m: usize) -> bool
+pub(crate) fn measure_found(d: Measure, n: usize, m: usize) -> bool
     ensures { result ≡ found_measure n m d }
 {
     match d {
@@ -60,46 +59,4 @@ fn measure_found(d: Measure, n: usize, m: usize) -> bool
         Measure::PointLine(p, l, _) => (p.0 < n) & (l.0 < m),
         Measure::Radius(c, f) => (c.0 < n) & (f.0 < n),
     }
-}
-
-// Of the first k lines, equations and measures.
-pub(crate) fn lines_found(lines: [Line; 40], k: usize, n: usize) -> bool
-    requires { k ≤ 40 }
-    ensures { result ≡ every (found_line n) (take k lines) }
-{
-    for i in 0..k {
-        let l = lines[i];
-        if !line_found(l, n) {
-            return false;
-        }
-    }
-    true
-}
-
-pub(crate) fn equations_found(equations: [Active; 40], k: usize, n: usize, m: usize) -> bool
-    requires { k ≤ 40 }
-    ensures { result ≡ every (found_active n m) (take k equations) }
-{
-    for i in 0..k {
-        let a = equations[i];
-        let e = a.equation;
-        if !equation_found(e, n, m) {
-            return false;
-        }
-    }
-    true
-}
-
-pub(crate) fn measures_found(measures: [Measured; 20], k: usize, n: usize, m: usize) -> bool
-    requires { k ≤ 20 }
-    ensures { result ≡ every (found_measured n m) (take k measures) }
-{
-    for i in 0..k {
-        let a = measures[i];
-        let d = a.measure;
-        if !measure_found(d, n, m) {
-            return false;
-        }
-    }
-    true
 }

@@ -3,8 +3,11 @@
 
 #![tactic(auto)]
 
+ghost use Rattle.std.specs.Prelude.{◌≡◌};
+
 mod checks;
 mod counts;
+mod endings;
 mod indices;
 mod numbers;
 mod touches;
@@ -32,6 +35,21 @@ pub enum State {
     Free,
     Kept,
     Placed(Vec2),
+}
+
+impl State {
+    ghost use Rattle.sketch.specs.Fixed.{is_fixed};
+
+    // Kept where it was drawn, or placed.
+    pub fn is_fixed(self) -> bool
+        ensures { result ≡ is_fixed self }
+    {
+        match self {
+            State::Free => false,
+            State::Kept => true,
+            State::Placed(_) => true,
+        }
+    }
 }
 
 #[derive(Clone, Copy)]
@@ -180,6 +198,35 @@ pub struct Build {
     pub measure_count: usize,
 }
 
+// Of each sort as many items as its count says, and no more than there are places.
+impl Build {
+    ghost use Rattle.sketch.specs.Parts.{points_of, lines_of, equations_of, measures_of};
+
+    pub fn points(&self) -> &[Point]
+        ensures { result.now ≡ points_of self.now }
+    {
+        &self.points[..self.point_count.min(40)]
+    }
+
+    pub fn lines(&self) -> &[Line]
+        ensures { result.now ≡ lines_of self.now }
+    {
+        &self.lines[..self.line_count.min(40)]
+    }
+
+    pub fn equations(&self) -> &[Active]
+        ensures { result.now ≡ equations_of self.now }
+    {
+        &self.equations[..self.equation_count.min(40)]
+    }
+
+    pub fn measures(&self) -> &[Measured]
+        ensures { result.now ≡ measures_of self.now }
+    {
+        &self.measures[..self.measure_count.min(20)]
+    }
+}
+
 // The points that an equation touches: at most four; the places past the count hold point 0.
 #[derive(Clone, Copy)]
 pub struct Touched {
@@ -187,8 +234,8 @@ pub struct Touched {
     pub count: usize,
 }
 
-// The endings of a job, by name; document 01's number of each is `number_of`.
-#[derive(Clone, Copy)]
+// The endings of a job, by name; document 01's number of each is `usize::from` of it.
+#[derive(Clone, Copy, Debug, PartialEq, Eq)]
 pub enum Ending {
     Fitted,
     TooLong,
@@ -199,11 +246,4 @@ pub enum Ending {
     TooManyRows,
     NotConverged,
     TooShort,
-}
-
-// What the check before a fit finds.
-#[derive(Clone, Copy)]
-pub enum Checked {
-    Passes,
-    Ends(Ending),
 }

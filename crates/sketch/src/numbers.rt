@@ -1,9 +1,8 @@
-// The bounds of a build's numbers.
-ghost use Rattle.std.specs.Prelude.{◌≡◌, ◌≤◌, take};
-ghost use Rattle.loops.specs.Turns.{every};
-ghost use Rattle.sketch.specs.Numbers.{bounded, sized, is_side, bounded_vec, bounded_state, bounded_point, bounded_rad, bounded_contact, bounded_equation, bounded_active, bounded_measure, bounded_measured};
+// The bounds of a build's numbers, item by item.
+ghost use Rattle.std.specs.Prelude.{◌≡◌};
+ghost use Rattle.sketch.specs.Numbers.{bounded, sized, is_side, bounded_vec, bounded_state, bounded_point, bounded_rad, bounded_contact, bounded_equation, bounded_measure};
 
-use crate::{Active, Contact, Equation, Measure, Measured, Point, Rad, State};
+use crate::{Contact, Equation, Measure, Point, Rad, State};
 use plane::Vec2;
 
 fn is_bounded(x: f64) -> bool
@@ -40,12 +39,10 @@ fn state_bounded(s: State) -> bool
     }
 }
 
-fn point_bounded(p: Point) -> bool
+pub(crate) fn point_bounded(p: Point) -> bool
     ensures { result ≡ bounded_point p }
 {
-    let start = p.start;
-    let state = p.state;
-    vec_bounded(start) & state_bounded(state)
+    vec_bounded(p.start) & state_bounded(p.state)
 }
 
 fn rad_bounded(r: Rad) -> bool
@@ -66,7 +63,7 @@ fn contact_bounded(c: Contact) -> bool
     }
 }
 
-fn equation_bounded(e: Equation) -> bool
+pub(crate) fn equation_bounded(e: Equation) -> bool
     ensures { result ≡ bounded_equation e }
 {
     match e {
@@ -98,7 +95,7 @@ fn equation_bounded(e: Equation) -> bool
     }
 }
 
-fn measure_bounded(m: Measure) -> bool
+pub(crate) fn measure_bounded(m: Measure) -> bool
     ensures { result ≡ bounded_measure m }
 {
     match m {
@@ -108,46 +105,4 @@ fn measure_bounded(m: Measure) -> bool
         Measure::PointLine(_, _, side) => is_side(side),
         Measure::Radius(_, _) => true,
     }
-}
-
-// Of the first n points, equations and measures.
-pub(crate) fn points_bounded(points: [Point; 40], n: usize) -> bool
-    requires { n ≤ 40 }
-    ensures { result ≡ every bounded_point (take n points) }
-{
-    for i in 0..n {
-        let p = points[i];
-        if !point_bounded(p) {
-            return false;
-        }
-    }
-    true
-}
-
-pub(crate) fn equations_bounded(equations: [Active; 40], n: usize) -> bool
-    requires { n ≤ 40 }
-    ensures { result ≡ every bounded_active (take n equations) }
-{
-    for i in 0..n {
-        let a = equations[i];
-        let e = a.equation;
-        if !equation_bounded(e) {
-            return false;
-        }
-    }
-    true
-}
-
-pub(crate) fn measures_bounded(measures: [Measured; 20], n: usize) -> bool
-    requires { n ≤ 20 }
-    ensures { result ≡ every bounded_measured (take n measures) }
-{
-    for i in 0..n {
-        let d = measures[i];
-        let m = d.measure;
-        if !measure_bounded(m) {
-            return false;
-        }
-    }
-    true
 }

@@ -44,7 +44,7 @@ after row (laid m j) = laid (row + m) j
 module _ (P C : List ℕ) (n : ℕ) where
   rows-from : (row base : ℕ) (j : List Float) (rs : List Row) → base ≡ row * n
       → laid (row + length rs) (rows_from P C (record { n = n; base = base }) j rs) ≡ fold (next_row P C n) (laid row j) rs
-  unfolding fold next_row rows_from
+  unfolding next_row rows_from
   rows-from row base j [] e = let z : row + 0 ≡ row = omega arith in ap (λ (k : ℕ). laid k j) z
   rows-from row base j (r ∷ rs) e =
       let next : base + n ≡ (row + 1) * n = rw (e, add-mul row 1 n) (omega arith) in
@@ -54,7 +54,7 @@ module _ (P C : List ℕ) (n : ℕ) where
 
   module _ (row m : ℕ) (j j' : List Float) (rs : List Row) (h : laid m j' ≡ rows_into P C (record { n = n; base = row * n }) j rs) where
     pub rows-laid : laid (row + m) j' ≡ fold (next_row P C n) (laid row j) rs
-    unfolding after fold
+    unfolding after
     rows-laid = ap (after row) h ∙ rows-from row (row * n) j rs refl
 
     pub few : length rs ≤ 2 → m ≤ 2
@@ -71,7 +71,7 @@ module _ (es : List Active) (ls : List Line) (P : List ℕ) (x : List Float) (ch
   rows-turn C n row row' j j' e R p q t = fold_next 0 (rows_next es ls P x C n) chosen i (laid row j) (laid row' j') R h (rw p at q) t
 
   no_row : (C : List ℕ) (n row : ℕ) (j : List Float) → laid row j ≡ fold (next_row P C n) (laid row j) (rows_of_equation ls (at_of P x) Equation.Held)
-  unfolding fold rows_of_equation
+  unfolding rows_of_equation
   no_row C n row j = refl
 
   pub rows-past : (C : List ℕ) (n row : ℕ) (j : List Float) (R : Laid) → length es ≤ get_or chosen i 0

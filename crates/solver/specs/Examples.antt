@@ -21,7 +21,7 @@ four = of_bits binary64 0x4010_0000_0000_0000
 pub worked :
     (solution_of 2 (zero⁺ ∷ one ∷ one ∷ zero⁺ ∷ []) (three ∷ four ∷ []) ≡ go (four ∷ three ∷ []))
     × (solution_of 1 (one ∷ []) (zero⁻ ∷ []) ≡ go (zero⁺ ∷ []))
-unfolding solution_of all_finite back_of back_at sum_of add_term eliminated_of column_of singular below_of row_of less_row less_at swapped swap_column swap_at pivot_of larger_row scale_of every fold try_to tries down_to up_to turns max_of magnitude_of is_nan to_bits of_bits add sub mul div lt eq le
+unfolding solution_of all_finite back_of back_at sum_of add_term eliminated_of column_of singular below_of row_of less_row less_at swapped swap_column swap_at pivot_of larger_row scale_of try_to tries down_to up_to turns max_of magnitude_of is_nan to_bits of_bits add sub mul div lt eq le
 worked = (refl, refl)
 
 abbrev largest : Float
@@ -36,7 +36,7 @@ pub reasons :
     × (reasoned_of 2 (one ∷ inf false ∷ one ∷ one ∷ []) (one ∷ one ∷ []) ≡ no_pivot 1)
     × (reasoned_of 1 (nan ∷ []) (one ∷ []) ≡ not_finite)
     × (reasoned_of 1 (half ∷ []) (largest ∷ []) ≡ not_finite)
-unfolding reasoned_of columns_from if_finite back_of back_at sum_of add_term column_of singular below_of row_of less_row less_at swapped swap_column swap_at pivot_of larger_row scale_of every fold down_to up_to turns max_of magnitude_of is_nan to_bits of_bits add sub mul div lt eq le
+unfolding reasoned_of columns_from if_finite back_of back_at sum_of add_term column_of singular below_of row_of less_row less_at swapped swap_column swap_at pivot_of larger_row scale_of down_to up_to turns max_of magnitude_of is_nan to_bits of_bits add sub mul div lt eq le
 reasons = (refl, refl, refl, refl, refl)
 
 abbrev crossed : Sys
@@ -48,5 +48,5 @@ pub left_behind :
     ≡ go (sys (one ∷ zero⁺ ∷ zero⁺ ∷ zero⁺ ∷ one ∷ zero⁺ ∷ zero⁻ ∷ zero⁺ ∷ one ∷ []) (one ∷ four ∷ three ∷ [])))
     × (lesser_eliminated 3 crossed
     ≡ some (sys (one ∷ zero⁺ ∷ zero⁺ ∷ zero⁻ ∷ one ∷ zero⁺ ∷ zero⁺ ∷ zero⁺ ∷ one ∷ []) (one ∷ four ∷ three ∷ [])))
-unfolding eliminated_of lesser_eliminated columns_from column_of lesser_column singular below_of row_of less_row less_at swapped lesser_swapped part_swapped swap_column swap_at pivot_of larger_row scale_of fold try_to tries up_to turns max_of magnitude_of is_nan to_bits of_bits add sub mul div lt eq le
+unfolding eliminated_of lesser_eliminated columns_from column_of lesser_column singular below_of row_of less_row less_at swapped lesser_swapped part_swapped swap_column swap_at pivot_of larger_row scale_of try_to tries up_to turns max_of magnitude_of is_nan to_bits of_bits add sub mul div lt eq le
 left_behind = (refl, refl)

@@ -101,17 +101,14 @@ module _ (s : List ℕ) (c : Cursor) where
 -- Words: past one, the bytes of which have to stand there.
 module _ (s : List ℕ) where
   pub word_keeps : (w : List ℕ) (c : Cursor) → (fold (eat_of s) c w).ok ≡ true → c.ok ≡ true
-  unfolding fold
   word_keeps [] c k = k
   word_keeps (b ∷ w) c k = eat-keeps s c b (word_keeps w (eat_of s c b) k)
 
   pub word-forward : (w : List ℕ) (c : Cursor) (t : List ℕ) → Here s c (w ++ t) → Here s (fold (eat_of s) c w) t
-  unfolding fold
   word-forward [] c t h = h
   word-forward (b ∷ w) c t h = word-forward w (eat_of s c b) t (eat-forward s c b (w ++ t) h)
 
   pub word-backward : (w : List ℕ) (c : Cursor) (t : List ℕ) → Here s c t → (fold (eat_of s) c w).ok ≡ true → (u : List ℕ) × (t ≡ w ++ u) × Here s (fold (eat_of s) c w) u
-  unfolding fold
   word-backward [] c t h k = (t, refl, h)
   word-backward (b ∷ w) c t h k =
       let f = eat-backward s c b t h (word_keeps w (eat_of s c b) k) in

@@ -28,30 +28,30 @@ rest =
 
 -- 01's example
 the-example : (read_of (counts (ascii "3") ++ rest ++ ascii "\n")).outcome ≡ Read
-unfolding counts rest read_of counts_at count_at build_at fold up_to turns hex_of next_hex further_of eat_of digit_of first_digit_of more_of equation_at number_at value_at axis_at vec_at operand_at point_into line_into equation_into measure_into or_named trying state_at point_line line_line equation_line measure_line gauged_at named measure_at
+unfolding counts rest read_of counts_at count_at build_at up_to turns hex_of next_hex further_of eat_of digit_of first_digit_of more_of equation_at number_at value_at axis_at vec_at operand_at point_into line_into equation_into measure_into or_named trying state_at point_line line_line equation_line measure_line gauged_at named measure_at
 the-example = refl
 
 -- without its last newline
 no-last-newline : (read_of (counts (ascii "3") ++ rest)).outcome ≡ Ends BadForm
-unfolding counts rest read_of counts_at count_at build_at fold up_to turns hex_of next_hex further_of eat_of digit_of first_digit_of more_of equation_at number_at value_at axis_at vec_at operand_at point_into line_into equation_into measure_into or_named trying state_at point_line line_line equation_line measure_line gauged_at named measure_at
+unfolding counts rest read_of counts_at count_at build_at up_to turns hex_of next_hex further_of eat_of digit_of first_digit_of more_of equation_at number_at value_at axis_at vec_at operand_at point_into line_into equation_into measure_into or_named trying state_at point_line line_line equation_line measure_line gauged_at named measure_at
 no-last-newline = refl
 
 -- with a newline too many
 more-after : (read_of (counts (ascii "3") ++ rest ++ ascii "\n\n")).outcome ≡ Ends BadForm
-unfolding counts rest read_of counts_at count_at build_at fold up_to turns hex_of next_hex further_of eat_of digit_of first_digit_of more_of equation_at number_at value_at axis_at vec_at operand_at point_into line_into equation_into measure_into or_named trying state_at point_line line_line equation_line measure_line gauged_at named measure_at
+unfolding counts rest read_of counts_at count_at build_at up_to turns hex_of next_hex further_of eat_of digit_of first_digit_of more_of equation_at number_at value_at axis_at vec_at operand_at point_into line_into equation_into measure_into or_named trying state_at point_line line_line equation_line measure_line gauged_at named measure_at
 more-after = refl
 
 -- 03 points
 needless-zero : (read_of (counts (ascii "03") ++ rest ++ ascii "\n")).outcome ≡ Ends BadForm
-unfolding counts rest read_of counts_at count_at build_at fold up_to turns hex_of next_hex further_of eat_of digit_of first_digit_of more_of equation_at number_at value_at axis_at vec_at operand_at point_into line_into equation_into measure_into or_named trying state_at point_line line_line equation_line measure_line gauged_at named measure_at
+unfolding counts rest read_of counts_at count_at build_at up_to turns hex_of next_hex further_of eat_of digit_of first_digit_of more_of equation_at number_at value_at axis_at vec_at operand_at point_into line_into equation_into measure_into or_named trying state_at point_line line_line equation_line measure_line gauged_at named measure_at
 needless-zero = refl
 
 -- 100000 points: the form goes first
 six-digits : (read_of (counts (ascii "100000") ++ rest ++ ascii "\n")).outcome ≡ Ends BadForm
-unfolding counts rest read_of counts_at count_at build_at fold up_to turns hex_of next_hex further_of eat_of digit_of first_digit_of more_of equation_at number_at value_at axis_at vec_at operand_at point_into line_into equation_into measure_into or_named trying state_at point_line line_line equation_line measure_line gauged_at named measure_at
+unfolding counts rest read_of counts_at count_at build_at up_to turns hex_of next_hex further_of eat_of digit_of first_digit_of more_of equation_at number_at value_at axis_at vec_at operand_at point_into line_into equation_into measure_into or_named trying state_at point_line line_line equation_line measure_line gauged_at named measure_at
 six-digits = refl
 
 -- 41 points, whatever follows, also nothing
 too-many-points : (read_of (counts (ascii "41"))).outcome ≡ Ends TooMany
-unfolding counts rest read_of counts_at count_at build_at fold up_to turns hex_of next_hex further_of eat_of digit_of first_digit_of more_of equation_at number_at value_at axis_at vec_at operand_at point_into line_into equation_into measure_into or_named trying state_at point_line line_line equation_line measure_line gauged_at named measure_at
+unfolding counts rest read_of counts_at count_at build_at up_to turns hex_of next_hex further_of eat_of digit_of first_digit_of more_of equation_at number_at value_at axis_at vec_at operand_at point_into line_into equation_into measure_into or_named trying state_at point_line line_line equation_line measure_line gauged_at named measure_at
 too-many-points = refl

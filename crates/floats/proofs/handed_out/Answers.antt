@@ -1,9 +1,10 @@
--- The logic has one NaN, which 0 / 0 is. Assumes nothing.
+-- The logic has one NaN, which the constant is. Assumes nothing.
 use mathlib.Core.Path.{sym}
 use lib.Ieee.{div, of_bits}
+use borrow.Author.Rules.{rules}
 use Rattle.floats.proofs.Values.{only_nan}
 use Rattle.floats.proofs.handed_out.Goals as goal
 
-pub returns-then-x : goal.returns-then-x
+pub returns-then-is_nan : goal.returns-then-is_nan
 unfolding div of_bits
-returns-then-x c = sym (only_nan _ c.if-x.true)
+returns-then-is_nan c = sym (only_nan c.args.x (search rules))

@@ -6,13 +6,10 @@ use Rattle.floats.proofs.Values.{only_nan, no_nan}
 use Rattle.floats.specs.Magnitude.{magnitude_of}
 use Rattle.floats.proofs.magnitude.Goals as goal
 
-pub float_to_bits-result : goal.float_to_bits-result
-float_to_bits-result c = no_nan _ c.if-x.false
-
-pub returns-then-x : goal.returns-then-x
+pub returns-then-is_nan : goal.returns-then-is_nan
 unfolding magnitude_of to_bits
-returns-then-x c = rw (only_nan _ c.if-x.true)
+returns-then-is_nan c = rw (only_nan c.args.x (search rules))
 
-pub returns-else-x : goal.returns-else-x
+pub returns-else-is_nan : goal.returns-else-is_nan
 unfolding magnitude_of
-returns-else-x c = abs-bits _ (search rules) (no_nan _ c.if-x.false)
+returns-else-is_nan c = abs-bits _ (search rules) (no_nan _ (search rules))

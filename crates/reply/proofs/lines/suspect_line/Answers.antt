@@ -10,5 +10,5 @@ returns-then-suspects-k c =
     rw c.if-suspects-k.true (then _ _ _ _ _ c.word-at.ensures c.put_whole.ensures)
 
 pub returns-else-suspects-k : goal.returns-else-suspects-k
-unfolding suspect_line fold
+unfolding suspect_line
 returns-else-suspects-k c = rw c.if-suspects-k.false

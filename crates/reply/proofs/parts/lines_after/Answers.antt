@@ -23,7 +23,6 @@ module _ (e : Ending) (a : Answer) (out : List Float) (p m : ℕ) (s u : LaidByt
 no_more : (e : Ending) (a : Answer) (out : List Float) (p m : ℕ) (s : LaidBytes)
     → (e ≡ TooLong) ⊎ ((e ≡ BadForm) ⊎ ((e ≡ TooMany) ⊎ ((e ≡ OutOfBounds) ⊎ ((e ≡ NoSuchItem) ⊎ ((e ≡ TooManyRows) ⊎ ((e ≡ TooShort)))))))
     → s ≡ laying (lines_after e a out p m) s
-unfolding fold
 no_more e a out p m s (inl q) = rw q refl
 no_more e a out p m s (inr (inl q)) = rw q refl
 no_more e a out p m s (inr (inr (inl q))) = rw q refl

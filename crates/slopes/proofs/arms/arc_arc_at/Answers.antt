@@ -51,6 +51,6 @@ shape_of-jac c =
     c.push-3.auto.jac ∙ c.push-2.auto.jac ∙ c.push.auto.jac ∙ c.clear_row.auto.jac
 
 pub returns : goal.returns
-unfolding arc_arc_at_of rows_from row_into fold
+unfolding arc_arc_at_of rows_from row_into
 returns c =
     rw (c.push-3.ensures, c.neg-2.ensures, c.push-2.ensures, c.neg.ensures, c.push.ensures, c.plus_vec.ensures) (rw (c.clear_row.ensures, c.across-g2.ensures, c.turned_up.ensures, c.across-g1.ensures, c.turned_down.ensures, c.unit_from-w2.ensures) (rw c.unit_from-w1.ensures))

@@ -36,6 +36,6 @@ shape_of-jac c =
     c.push-3.auto.jac ∙ c.push-2.auto.jac ∙ c.push.auto.jac ∙ c.clear_row.auto.jac
 
 pub returns : goal.returns
-unfolding arc_ends_of rows_from row_into fold
+unfolding arc_ends_of rows_from row_into
 returns c =
     rw (c.push-3.ensures, c.neg.ensures, c.push-2.ensures, c.sub.ensures, c.push.ensures, c.clear_row.ensures, c.unit_from-dt.ensures, c.unit_from-df.ensures)

@@ -40,6 +40,6 @@ shape_of-jac c =
     c.radius-2.auto.jac ∙ c.radius.auto.jac ∙ c.push-2.auto.jac ∙ c.push.auto.jac ∙ c.clear_row.auto.jac
 
 pub returns : goal.returns
-unfolding circle_circle_of rows_from row_into fold
+unfolding circle_circle_of rows_from row_into
 returns c =
     rw (fold-append, c.radius-2.ensures, c.second_sign.ensures, c.radius.ensures, c.first_sign.ensures, c.push-2.ensures, c.neg.ensures, c.push.ensures, c.clear_row.ensures, c.unit_from-d.ensures)

@@ -32,7 +32,7 @@ shape_of-jac c =
     c.push-4.auto.jac ∙ c.push-3.auto.jac ∙ c.clear_row-2.auto.jac ∙ c.push-2.auto.jac ∙ c.push.auto.jac ∙ c.clear_row.auto.jac
 
 pub returns : goal.returns
-unfolding coincident_of row_into fold
+unfolding coincident_of row_into
 returns c =
     let a = c.args in
     two-rows a.places.now a.columns.now a.to a.jac.now c.push-2.new.jac _ _ _

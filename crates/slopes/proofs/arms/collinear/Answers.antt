@@ -53,7 +53,7 @@ shape_of-jac c =
     c.push-2.auto.jac ∙ c.push.auto.jac ∙ c.through1.auto.jac ∙ c.clear_row-2.auto.jac ∙ c.through2.auto.jac ∙ c.clear_row.auto.jac
 
 pub returns : goal.returns
-unfolding collinear_of row_into fold
+unfolding collinear_of row_into
 returns c =
     let a = c.args in
     two-rows a.places.now a.columns.now a.to a.jac.now c.through2.new.jac _ _ _

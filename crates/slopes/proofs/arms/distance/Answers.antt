@@ -22,6 +22,6 @@ pub push-requires-2 : goal.push-requires-2
 push-requires-2 c = within c.requires
 
 pub returns : goal.returns
-unfolding distance_of rows_from row_into fold
+unfolding distance_of rows_from row_into
 returns c =
     rw (c.push-2.ensures, c.neg.ensures, c.push.ensures, c.clear_row.ensures, c.unit_from-d.ensures)

@@ -39,6 +39,6 @@ shape_of-jac c =
     c.push-4.auto.jac ∙ c.push-3.auto.jac ∙ c.push-2.auto.jac ∙ c.push.auto.jac ∙ c.clear_row.auto.jac
 
 pub returns : goal.returns
-unfolding equal_of rows_from row_into fold
+unfolding equal_of rows_from row_into
 returns c =
     rw (c.push-4.ensures, c.push-3.ensures, c.neg-2.ensures, c.push-2.ensures, c.neg.ensures, c.push.ensures, c.clear_row.ensures, c.dir-dj.ensures, c.dir-di.ensures)

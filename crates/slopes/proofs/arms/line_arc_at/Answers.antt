@@ -36,6 +36,6 @@ shape_of-jac c =
     c.push-2.auto.jac ∙ c.push.auto.jac ∙ c.through1.auto.jac ∙ c.clear_row.auto.jac
 
 pub returns : goal.returns
-unfolding line_arc_at_of rows_from row_into fold
+unfolding line_arc_at_of rows_from row_into
 returns c =
     rw (c.push-2.ensures, c.neg.ensures, c.push.ensures, c.across-gp.ensures, c.through1.ensures, c.clear_row.ensures, c.unit_from-w.ensures, c.dir-d.ensures)

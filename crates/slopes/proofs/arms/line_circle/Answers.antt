@@ -42,6 +42,6 @@ shape_of-jac c =
     c.radius.auto.jac ∙ c.push-2.auto.jac ∙ c.push.auto.jac ∙ c.through1.auto.jac ∙ c.clear_row.auto.jac
 
 pub returns : goal.returns
-unfolding line_circle_of rows_from row_into fold
+unfolding line_circle_of rows_from row_into
 returns c =
     rw (c.radius.ensures, c.push-2.ensures, c.neg.ensures, c.push.ensures, c.side_up-toward.ensures, c.through1.ensures, c.side_down.ensures, c.clear_row.ensures, c.offset-q.ensures, c.dir-d.ensures)

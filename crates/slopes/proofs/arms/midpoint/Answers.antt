@@ -44,7 +44,7 @@ shape_of-jac c =
     c.push-6.auto.jac ∙ c.push-5.auto.jac ∙ c.push-4.auto.jac ∙ c.clear_row-2.auto.jac ∙ c.push-3.auto.jac ∙ c.push-2.auto.jac ∙ c.push.auto.jac ∙ c.clear_row.auto.jac
 
 pub returns : goal.returns
-unfolding midpoint_of row_into fold
+unfolding midpoint_of row_into
 returns c =
     let a = c.args in
     two-rows a.places.now a.columns.now a.to a.jac.now c.push-3.new.jac _ _ _

@@ -25,6 +25,6 @@ pub through2-requires : goal.through2-requires
 through2-requires c = within c.requires
 
 pub returns : goal.returns
-unfolding parallel_of rows_from row_into fold
+unfolding parallel_of rows_from row_into
 returns c =
     rw (c.through2.ensures, c.turned_up.ensures, c.turned_down.ensures, c.clear_row.ensures, c.dir-dj.ensures, c.dir-di.ensures)

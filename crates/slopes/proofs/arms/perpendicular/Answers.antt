@@ -19,6 +19,6 @@ pub through2-requires : goal.through2-requires
 through2-requires c = within c.requires
 
 pub returns : goal.returns
-unfolding perpendicular_of rows_from row_into fold
+unfolding perpendicular_of rows_from row_into
 returns c =
     rw (c.through2.ensures, c.clear_row.ensures, c.dir-dj.ensures, c.dir-di.ensures)

@@ -18,6 +18,5 @@ pub push-requires-2 : goal.push-requires-2
 push-requires-2 c = c.requires
 
 pub returns : goal.returns
-unfolding fold
 returns c =
     rw (c.push-2.ensures, c.times_vec-2.ensures, c.push.ensures, c.times_vec.ensures, c.unit_from-d.ensures)

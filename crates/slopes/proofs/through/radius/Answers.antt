@@ -9,5 +9,4 @@ pub returns-in-Point : goal.returns-in-Point
 returns-in-Point c = rw (c.in-Point.is, c.around.ensures)
 
 pub returns-in-Value : goal.returns-in-Value
-unfolding fold
 returns-in-Value c = rw c.in-Value.is

@@ -15,6 +15,5 @@ pub push-requires-2 : goal.push-requires-2
 push-requires-2 c = c.requires
 
 pub returns : goal.returns
-unfolding fold
 returns c =
     rw (c.push-2.ensures, c.neg.ensures, c.push.ensures, c.across-gb.ensures)

@@ -9,6 +9,5 @@ pub through1-requires-2 : goal.through1-requires-2
 through1-requires-2 c = c.requires
 
 pub returns : goal.returns
-unfolding fold
 returns c =
     rw (c.through1-2.ensures, c.through1.ensures)
