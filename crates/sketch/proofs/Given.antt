@@ -4,12 +4,11 @@ use mathlib.Core.Bool.{Bool, true, false}
 use mathlib.Core.Logic.{◌↔◌}
 use mathlib.Core.Path.{◌≡◌, refl, sym, ap, ◌∙◌}
 use Prim.Native.Nat.{ℕ}
+use Rattle.std.specs.Prelude.{Ok}
 use Rattle.loops.specs.Numbers.{refused}
-use Rattle.sketch.specs.Check.{Checks, check_of, meaning_of, numbered, ordered, over_bound, out_of_bounds, refers_to_nothing, over_rows}
+use Rattle.sketch.specs.Check.{Checked, Checks, check_of, meaning_of, numbered, ordered, over_bound, out_of_bounds, refers_to_nothing, over_rows}
 use Rattle.sketch.specs.Given.{GivenExactly}
 use Rattle.sketch.specs.declared.Build.{Build}
-use Rattle.sketch.specs.declared.Checked.{Checked}
-use Rattle.sketch.specs.declared.Checked.TheVariants.{Passes}
 
 module _ (b : Build) where
   meant : (o u m r : Bool) → meaning_of b (ordered o u m r) ≡ numbered b o u m r
@@ -47,7 +46,7 @@ module _ (b : Build) where
   sixth false false false true = (λ h. (cc, cc, cc, cc), λ h. cc)
   sixth false false false false = (λ h. (cc, cc, cc, cc), λ h. cc)
 
-  passing : (o u m r : Bool) → ordered o u m r ≡ Passes ↔ (o ≡ false) × (u ≡ false) × (m ≡ false) × (r ≡ false)
+  passing : (o u m r : Bool) → ordered o u m r ≡ Ok tt ↔ (o ≡ false) × (u ≡ false) × (m ≡ false) × (r ≡ false)
   passing true u m r = (λ h. (cc, cc, cc, cc), λ h. cc)
   passing false true m r = (λ h. (cc, cc, cc, cc), λ h. cc)
   passing false false true r = (λ h. (cc, cc, cc, cc), λ h. cc)

@@ -1,4 +1,3 @@
-pub mod Taken
 pub mod Within
 pub mod Given
 pub mod Every

@@ -1,6 +1,5 @@
 -- A point that is kept where it was drawn, or placed, is fixed.
 use Rattle.std.specs.Prelude.{Bool, true, false}
-use Rattle.plane.specs.declared.Vec2.{Vec2}
 use Rattle.sketch.specs.declared.State.{State}
 
 abbrev pub is_fixed : State → Bool

@@ -5,8 +5,8 @@ ghost use Rattle.sketch.specs.Indices.{found_build};
 ghost use Rattle.sketch.specs.Numbers.{bounded_build};
 
 use crate::counts::rows_of_all;
-use crate::indices::{equation_found, line_found, measure_found};
-use crate::numbers::{equation_bounded, is_sized, measure_bounded, point_bounded, vec_bounded};
+use crate::indices::{equations_found, lines_found, measures_found};
+use crate::numbers::{equations_bounded, is_sized, measures_bounded, points_bounded, vec_bounded};
 use crate::{Build, Ending};
 
 // 3: a count over its bound.
@@ -21,21 +21,17 @@ fn build_bounded(b: &Build) -> bool
 {
     vec_bounded(b.centre)
         & is_sized(b.size)
-        & b.points().iter().all(|p| point_bounded(*p))
-        & b.equations().iter().all(|a| equation_bounded(a.equation))
-        & b.measures().iter().all(|a| measure_bounded(a.measure))
+        & points_bounded(b.points())
+        & equations_bounded(b.equations())
+        & measures_bounded(b.measures())
 }
 
 fn build_found(b: &Build) -> bool
     ensures { result ≡ found_build b.now }
 {
-    let n = b.point_count;
-    let m = b.line_count;
-    b.lines().iter().all(|l| line_found(*l, n))
-        & b.equations()
-            .iter()
-            .all(|a| equation_found(a.equation, n, m))
-        & b.measures().iter().all(|a| measure_found(a.measure, n, m))
+    lines_found(b.lines(), b.point_count)
+        & equations_found(b.equations(), b.point_count, b.line_count)
+        & measures_found(b.measures(), b.point_count, b.line_count)
 }
 
 fn rows_over(b: &Build) -> bool
@@ -44,7 +40,8 @@ fn rows_over(b: &Build) -> bool
     64 < rows_of_all(b.equations())
 }
 
-// What a build ends in before its fit, or that it passes. The counts come first: the others look at as many items as they say.
+// What a build ends in before its fit, or nothing where it passes. The counts come first: the others look at as many items as they say.
+#[tactic(auto, unfolding(crate::specs::Check::check_of))]
 pub fn check(b: &Build) -> Result<(), Ending>
     ensures { Checks b.now result }
 {

@@ -1,10 +1,11 @@
 // Whether what a build refers to is there, among n points and m lines.
 ghost use Rattle.std.specs.Prelude.{◌≡◌};
-ghost use Rattle.sketch.specs.Indices.{found_line, found_rad, found_equation, found_measure};
+ghost use Rattle.loops.specs.Turns.{every};
+ghost use Rattle.sketch.specs.Indices.{found_line, found_rad, found_equation, found_active, found_measure, found_measured};
 
-use crate::{Equation, Line, Measure, Rad};
+use crate::{Active, Equation, Line, Measure, Measured, Rad};
 
-pub(crate) fn line_found(l: Line, n: usize) -> bool
+fn line_found(l: Line, n: usize) -> bool
     ensures { result ≡ found_line n l }
 {
     (l.from.0 < n) & (l.to.0 < n)
@@ -19,7 +20,7 @@ fn rad_found(r: Rad, n: usize) -> bool
     }
 }
 
-pub(crate) fn equation_found(e: Equation, n: usize, m: usize) -> bool
+fn equation_found(e: Equation, n: usize, m: usize) -> bool
     ensures { result ≡ found_equation n m e }
 {
     match e {
@@ -49,7 +50,7 @@ pub(crate) fn equation_found(e: Equation, n: usize, m: usize) -> bool
     }
 }
 
-pub(crate) fn measure_found(d: Measure, n: usize, m: usize) -> bool
+fn measure_found(d: Measure, n: usize, m: usize) -> bool
     ensures { result ≡ found_measure n m d }
 {
     match d {
@@ -59,4 +60,22 @@ pub(crate) fn measure_found(d: Measure, n: usize, m: usize) -> bool
         Measure::PointLine(p, l, _) => (p.0 < n) & (l.0 < m),
         Measure::Radius(c, f) => (c.0 < n) & (f.0 < n),
     }
+}
+
+pub(crate) fn lines_found(lines: &[Line], n: usize) -> bool
+    ensures { result ≡ every (found_line n) lines.now }
+{
+    lines.iter().all(|l| line_found(*l, n))
+}
+
+pub(crate) fn equations_found(equations: &[Active], n: usize, m: usize) -> bool
+    ensures { result ≡ every (found_active n m) equations.now }
+{
+    equations.iter().all(|a| equation_found(a.equation, n, m))
+}
+
+pub(crate) fn measures_found(measures: &[Measured], n: usize, m: usize) -> bool
+    ensures { result ≡ every (found_measured n m) measures.now }
+{
+    measures.iter().all(|a| measure_found(a.measure, n, m))
 }

@@ -1,8 +1,9 @@
 // The bounds of a build's numbers, item by item.
 ghost use Rattle.std.specs.Prelude.{◌≡◌};
-ghost use Rattle.sketch.specs.Numbers.{bounded, sized, is_side, bounded_vec, bounded_state, bounded_point, bounded_rad, bounded_contact, bounded_equation, bounded_measure};
+ghost use Rattle.loops.specs.Turns.{every};
+ghost use Rattle.sketch.specs.Numbers.{bounded, sized, is_side, bounded_vec, bounded_state, bounded_point, bounded_rad, bounded_contact, bounded_equation, bounded_active, bounded_measure, bounded_measured};
 
-use crate::{Contact, Equation, Measure, Point, Rad, State};
+use crate::{Active, Contact, Equation, Measure, Measured, Point, Rad, State};
 use plane::Vec2;
 
 fn is_bounded(x: f64) -> bool
@@ -39,7 +40,7 @@ fn state_bounded(s: State) -> bool
     }
 }
 
-pub(crate) fn point_bounded(p: Point) -> bool
+fn point_bounded(p: Point) -> bool
     ensures { result ≡ bounded_point p }
 {
     vec_bounded(p.start) & state_bounded(p.state)
@@ -63,7 +64,7 @@ fn contact_bounded(c: Contact) -> bool
     }
 }
 
-pub(crate) fn equation_bounded(e: Equation) -> bool
+fn equation_bounded(e: Equation) -> bool
     ensures { result ≡ bounded_equation e }
 {
     match e {
@@ -95,7 +96,7 @@ pub(crate) fn equation_bounded(e: Equation) -> bool
     }
 }
 
-pub(crate) fn measure_bounded(m: Measure) -> bool
+fn measure_bounded(m: Measure) -> bool
     ensures { result ≡ bounded_measure m }
 {
     match m {
@@ -105,4 +106,22 @@ pub(crate) fn measure_bounded(m: Measure) -> bool
         Measure::PointLine(_, _, side) => is_side(side),
         Measure::Radius(_, _) => true,
     }
+}
+
+pub(crate) fn points_bounded(points: &[Point]) -> bool
+    ensures { result ≡ every bounded_point points.now }
+{
+    points.iter().all(|p| point_bounded(*p))
+}
+
+pub(crate) fn equations_bounded(equations: &[Active]) -> bool
+    ensures { result ≡ every bounded_active equations.now }
+{
+    equations.iter().all(|a| equation_bounded(a.equation))
+}
+
+pub(crate) fn measures_bounded(measures: &[Measured]) -> bool
+    ensures { result ≡ every bounded_measured measures.now }
+{
+    measures.iter().all(|a| measure_bounded(a.measure))
 }
