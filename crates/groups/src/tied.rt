@@ -13,7 +13,7 @@ fn touched(a: Active, lines: [Line; 40]) -> Touched
     ensures { result ≡ touched_of (involved_of lines a.equation) }
 {
     let e = a.equation;
-    involved(e, lines)
+    involved(e, &lines)
 }
 
 fn untouched() -> Touched
