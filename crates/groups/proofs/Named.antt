@@ -78,10 +78,10 @@ module _ (b : Build) (items : List Active) (k : ℕ) (d : Active) (t : Touched) 
       → up_to n (k + 1) (λ k. join_all (touches k)) s' ≡ R
   join-turn s s' R q r = up_to-next (λ k. join_all (touches k)) n k s s' R within (q ∙ ap (λ l. join_all l s) named) r
 
-  pub list-turn : (index : List ℕ) (g : Gives (List ℕ)) (ps : List ℕ) (v : ℕ) (R : Gives (List ℕ))
+  pub list-turn : (index : List ℕ) (g : Gives (List ℕ)) (ps of : List ℕ) (v : ℕ) (R : Gives (List ℕ)) → of ≡ set g.answer k v
       → v ≡ (group_of index (map number points) g.parents).answer → ps ≡ (group_of index (map number points) g.parents).parents
       → up_to n k (list_equation index touches) g ≡ R
-      → up_to n (k + 1) (list_equation index touches) (record { parents = ps; answer = set g.answer k v }) ≡ R
+      → up_to n (k + 1) (list_equation index touches) (record { parents = ps; answer = of }) ≡ R
   unfolding list_equation
-  list-turn index g ps v R q p r =
-      up_to-next (list_equation index touches) n k g (record { parents = ps; answer = set g.answer k v }) R within (rw (p, q, named)) r
+  list-turn index g ps of v R o q p r =
+      up_to-next (list_equation index touches) n k g (record { parents = ps; answer = of }) R within (rw (o, p, q, named)) r

@@ -17,7 +17,7 @@ pub loop-k-preserved : goal.loop-k-preserved
 loop-k-preserved c =
     let l = c.loop-k in
     list-turn c.args.b.now _ l.k _ _ _ c.equations-a-items.ensures (search rules) c.points.ensures c.involved-t.ensures c.args.index.now
-    (record { parents = l.p.above; answer = l.of }) _ _ _ c.group_of.ensures.0 c.group_of.ensures.1 l.invariant
+    (record { parents = l.p.above; answer = l.of }) _ _ _ _ c.put.ensures c.group_of.ensures.0 c.group_of.ensures.1 l.invariant
 
 pub returns : goal.returns
 returns c =
