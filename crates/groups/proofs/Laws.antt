@@ -52,16 +52,6 @@ pub join_all-falls : (pts ps ps' : List ℕ) → Falls ps → ps' ≡ join_all p
 unfolding join_all
 join_all-falls pts ps ps' f e = rw e (fold-falls (get_or pts 0 0) (drop 1 pts) ps f)
 
--- a turn of a loop over points, by number
-pub numbers-next : {S : Type 0} (d : PointNo) (f : S → ℕ → S) (l : List PointNo) (i : ℕ) (s s' R : S) → i < length l
-    → s' ≡ f s (number (get_or l i d)) → fold f s (map number (drop i l)) ≡ R → fold f s' (map number (drop (i + 1) l)) ≡ R
-numbers-next d f l i s s' R h e r =
-    let q : drop i l ≡ get_or l i d ∷ drop (i + 1) l = rw (add-one, drop-cons l i d h) in
-    rw e (rw q at r)
-
-pub numbers-done : {S : Type 0} (f : S → ℕ → S) (l : List PointNo) (i : ℕ) (s R : S) → length l ≤ i → fold f s (map number (drop i l)) ≡ R → s ≡ R
-numbers-done f l i s R h r = rw (drop_of_length-le l h) at r
-
 pub point-falls : (b : Bool) (q : ℕ) (g : Gives Listing) (ps : List ℕ) → Falls g.parents → ps ≡ (point_of b q g).parents → Falls ps
 unfolding point_of
 point-falls true q g ps f e = rw e (root_kept g.parents q f).falls

@@ -64,7 +64,7 @@ impl Parents {
     pub(crate) fn join_all(&mut self, points: &[PointNo])
         ensures { self.new.above ≡ join_all (map number points.now) self.old.above }
     {
-        if let Some((first, others)) = points.split_first() {
+        if let [first, others @ ..] = points {
             for q in others {
                 self.join(first.0, q.0);
             }

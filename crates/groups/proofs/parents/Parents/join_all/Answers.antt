@@ -1,38 +1,34 @@
--- Assumes nothing.
-use Prim.Native.Nat.{ℕ}
+-- What the pattern takes apart is what the definition goes over, whatever stands before the others. Assumes nothing.
+use Prim.Native.Nat.{ℕ, ◌-◌, ◌<◌}
 use mathlib.Core.List.{List, [], ◌∷◌, map}
 use mathlib.Core.Path.{◌≡◌, refl, sym}
+use native.Mathlib.Omega.{arith}
 use borrow.Author.Rules.{rules}
-use lib.ListN.{length}
+use lib.ListN.{length, get_or, take, drop, length-drop, length-map, drop_of_length-le}
+use lib.Seq.{take_all}
 use Rattle.loops.specs.Turns.{fold}
+use Rattle.std.proofs.lemmas.List.{drop-map}
 use Rattle.sketch.specs.declared.PointNo.{PointNo}
 use Rattle.groups.specs.Parents.{join_to, join_all}
 use Rattle.groups.specs.Touches.{number}
-use Rattle.groups.proofs.Laws.{numbers-next, numbers-done}
 use Rattle.groups.proofs.parents.Parents.join_all.Goals as goal
 
-begins : (points others : List PointNo) (first : PointNo) (ps : List ℕ) → points ≡ first ∷ others
-    → fold (join_to first.0) ps (map number others) ≡ join_all (map number points) ps
-unfolding join_all
-begins points others first ps e = rw e
+module _ (m : ℕ) (ps : List ℕ) where
+  begins : (points : List PointNo) (d : PointNo) → 0 < length points
+      → fold (join_to (get_or points 0 d).0) ps (map number (take (length points - m) (drop m points)))
+      ≡ fold (join_to (get_or (map number points) 0 0)) ps (drop m (map number points))
+  begins [] d h = absurd (omega arith)
+  begins (x ∷ l) d h = rw (take_all (length (x ∷ l) - m) (drop m (x ∷ l)) (omega (arith, length-drop m (x ∷ l))), drop-map number m (x ∷ l))
 
-none : (points : List PointNo) (ps : List ℕ) → length points ≡ 0 → ps ≡ join_all (map number points) ps
-unfolding join_all
-none [] ps e = refl
-none (p ∷ points) ps e = absurd (search rules)
+  none : (points : List PointNo) → length points < m → ps ≡ fold (join_to (get_or (map number points) 0 0)) ps (drop m (map number points))
+  none points h =
+      let e : drop m (map number points) ≡ [] = drop_of_length-le (map number points) (omega (arith, length-map points number)) in
+      rw e
 
 pub loop-q-init : goal.loop-q-init
-loop-q-init c = begins _ _ _ _ c.in-Some.ensures.cases.0
-
-pub loop-q-preserved : goal.loop-q-preserved
-loop-q-preserved c =
-    let l = c.loop-q in
-    numbers-next _ (join_to c.in-Some.first.now.0) c.in-Some.others.now l.q-index l.self.above _ _ (search rules) c.join.ensures l.invariant
-
-pub returns-after-loop-q : goal.returns-after-loop-q
-returns-after-loop-q c =
-    let l = c.loop-q in
-    numbers-done (join_to c.in-Some.first.now.0) c.in-Some.others.now l.q-index l.self.above _ (search rules) l.invariant
+unfolding join_all
+loop-q-init c = begins _ _ c.args.points.now _ (search rules)
 
 pub returns-in_default : goal.returns-in_default
-returns-in_default c = none c.args.points.now c.args.self.now.above (search rules)
+unfolding join_all
+returns-in_default c = none _ _ c.args.points.now c.in_default.len_below
