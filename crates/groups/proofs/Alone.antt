@@ -6,7 +6,7 @@ use mathlib.Core.Path.{◌≡◌, sym, ◌∙◌}
 use native.Mathlib.Decide.{ℕ_discrete}
 use native.Mathlib.Omega.{arith}
 use denote.Param.Members.{Mut, Called}
-use lib.ListN.{length, get_or}
+use lib.ListN.{get_or}
 use Rattle.loops.proofs.Parts.{any-default}
 use Rattle.std.proofs.lemmas.List.{ext_get_or}
 use Rattle.std.specs.Array.{IsFromFnResultFrom, IsFromFnResult}
@@ -26,5 +26,5 @@ module _ {F : Type 0} (g : Mut F (ℕ × Unit {0}) ℕ) (same : (f : F) (i y : �
   alone-made f ys h =
       ext_get_or 0 ys alone (h.long ∙ sym alone-own.0)
       (λ k l.
-          let a : get_or alone k 0 ≡ k = any-default alone k 0 k (omega (arith, alone-own.0, h.long)) ∙ alone-own.1 k in
-          numbered 40 ys f 0 k 0 h.each (omega arith) (omega (arith, h.long)) ∙ sym a)
+      let a : get_or alone k 0 ≡ k = any-default alone k 0 k (omega (arith, alone-own.0, h.long)) ∙ alone-own.1 k in
+      numbered 40 ys f 0 k 0 h.each (omega arith) (omega (arith, h.long)) ∙ sym a)

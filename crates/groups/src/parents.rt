@@ -16,14 +16,7 @@ impl Parents {
     ghost use Rattle.groups.specs.Touches.{number};
 
     // Every point is its own root.
-    #[tactic(
-        auto,
-        unfolding(
-            loops::specs::Turns::up_to,
-            loops::specs::Turns::turns,
-            crate::specs::Parents::self_at
-        )
-    )]
+    #[tactic(auto, unfolding(loops::specs::Turns::up_to, loops::specs::Turns::turns, crate::specs::Parents::self_at))]
     pub(crate) fn alone() -> Parents
         ensures { result.above ≡ alone }
     {
@@ -52,6 +45,7 @@ impl Parents {
     }
 
     // The trees of x and y become one: the larger root goes under the smaller.
+    #[tactic(auto, unfolding(crate::specs::Parents::join_to))]
     fn join(&mut self, x: usize, y: usize)
         ensures { self.new.above ≡ join_to x self.old.above y }
     {

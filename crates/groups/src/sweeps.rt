@@ -33,6 +33,7 @@ fn list_equations(p: &mut Parents, index: &[usize; 40], b: &Build) -> [usize; 40
 }
 
 // The groups of a build, in the order of their lowest points.
+#[tactic(auto, unfolding(crate::specs::Listed::groups_of))]
 pub fn groups(b: &Build) -> Grouping
     ensures { result ≡ groups_of (touched_by b.now) (length (equations_of b.now)) }
 {

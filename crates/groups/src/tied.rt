@@ -6,10 +6,7 @@ ghost use Rattle.sketch.specs.Parts.{equations_of};
 
 use sketch::{Build, PointNo, involved};
 
-#[tactic(
-    auto,
-    unfolding(crate::specs::Tied::tie_all, crate::specs::Tied::tie_to)
-)]
+#[tactic(auto, unfolding(crate::specs::Tied::tie_all, crate::specs::Tied::tie_to))]
 fn tie_all(s: &mut [bool], points: &[PointNo])
     ensures { s.new ≡ tie_all (map number points.now) s.old }
 {

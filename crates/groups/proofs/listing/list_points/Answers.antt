@@ -22,12 +22,12 @@ pub loop-q-preserved : goal.loop-q-preserved
 loop-q-preserved c =
     let l = c.loop-q in
     elim c.if-is_tied.branch [
-      then-is_tied w ↦ rw (w.p-is, w.s-is) (
+      | then-is_tied w ↦ rw (w.p-is, w.s-is) (
         omega (arith, entered-count _ _ l.s _ w.enter.ensures),
         tied-turn c.args.tied.now l.q _ l.p.above l.s _ (search rules) (search rules) l.invariant.1 _ _ _ w.if-is_tied.true
             w.root-r.ensures.0 w.root-r.ensures.1 w.enter.ensures,
       )
-    | else-is_tied w ↦ rw (w.p-is, w.s-is) (
+      | else-is_tied w ↦ rw (w.p-is, w.s-is) (
         omega arith,
         untied-turn c.args.tied.now l.q _ l.p.above l.s _ (search rules) (search rules) l.invariant.1 w.if-is_tied.false,
       )

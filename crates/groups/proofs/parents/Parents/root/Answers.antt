@@ -1,5 +1,4 @@
 -- Each turn goes to a lower point and leaves the root as it was. Assumes nothing.
-use borrow.Author.Rules.{rules}
 use Rattle.groups.proofs.Laws.{ends-answer, ends-parents, turn-root}
 use Rattle.groups.proofs.parents.Parents.root.Goals as goal
 

@@ -1,4 +1,4 @@
-use Rattle.std.proofs.Common.{◌≡◌, length}
+use Rattle.std.proofs.Common.{◌≡◌}
 use Rattle.groups.specs.Parents.{root_of}
 use Rattle.groups.proofs.parents.Parents.root.Given as goal
 
