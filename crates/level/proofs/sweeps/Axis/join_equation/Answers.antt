@@ -9,7 +9,7 @@ use Rattle.sketch.specs.declared.Equation.{Equation}
 use Rattle.sketch.specs.declared.PointNo.{PointNo}
 use Rattle.level.specs.Level.{nothing, asks_of, join_asked, join_equation}
 use Rattle.level.specs.Parents.{join_to}
-use Rattle.level.proofs.sweeps.join_equation.Goals as goal
+use Rattle.level.proofs.sweeps.Axis.join_equation.Goals as goal
 
 other : (axis : ℕ) (e : Equation) → ((a b : PointNo) (ax : ℕ) → e ≡ Equation.Level a b ax → ⊥) → asks_of axis e ≡ nothing
 other axis (Equation.Coincident a b) h = refl
@@ -41,21 +41,20 @@ module _ (axis ax : ℕ) (fixed : List Bool) (ps r : List ℕ) (e : Equation) (a
   across : ax ≢ axis → r ≡ ps → r ≡ join_asked fixed ps (asks_of axis e)
   across h q = rw (is, ne_eqb ax axis h) q
 
-pub returns-then-ax-axis : goal.returns-then-ax-axis
+pub returns-then-axis-self : goal.returns-then-axis-self
 unfolding join_equation
-returns-then-ax-axis c =
+returns-then-axis-self c =
     let a = c.args in
-    asked a.axis _ a.fixed.now a.parent.now _ _ _ _ c.in-Level.is
-    c.if-ax-axis.true c.join.ensures
+    asked a.self.now.number _ a.self.now.fixed a.parents.now _ _ _ _ c.in-Level.is c.if-axis-self.true c.join.ensures
 
-pub returns-else-ax-axis : goal.returns-else-ax-axis
+pub returns-else-axis-self : goal.returns-else-axis-self
 unfolding join_equation
-returns-else-ax-axis c =
+returns-else-axis-self c =
     let a = c.args in
-    across a.axis _ a.fixed.now a.parent.now _ _ _ _ c.in-Level.is c.if-ax-axis.false refl
+    across a.self.now.number _ a.self.now.fixed a.parents.now _ _ _ _ c.in-Level.is c.if-axis-self.false refl
 
 pub returns-in_default : goal.returns-in_default
 unfolding join_equation
 returns-in_default c =
     let a = c.args in
-    sym (ap (join_asked a.fixed.now a.parent.now) (other a.axis a.active.equation c.in_default.not-Level))
+    sym (ap (join_asked a.self.now.fixed a.parents.now) (other a.self.now.number a.active.now.equation c.in_default.not-Level))

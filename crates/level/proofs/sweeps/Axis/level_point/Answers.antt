@@ -6,9 +6,11 @@ use mathlib.Core.Path.{◌≡◌}
 use lib.Dec.{eqb}
 use lib.Ieee.{Float, nan}
 use lib.ListN.{get_or, set}
+use borrow.Author.Rules.{rules}
+use Rattle.loops.proofs.Parts.{any-default}
 use Rattle.level.specs.Level.{place, level_point}
 use Rattle.level.specs.Parents.{Gives, find_of}
-use Rattle.level.proofs.sweeps.level_point.Goals as goal
+use Rattle.level.proofs.sweeps.Axis.level_point.Goals as goal
 
 -- what the find and the test give
 module _ (axis p root : ℕ) (fixed : List Bool) (f : Bool) (s : Gives (List Float)) (ps : List ℕ) (h : ps ≡ (find_of s.parents p).parents)
@@ -29,22 +31,20 @@ module _ (axis p root : ℕ) (fixed : List Bool) (f : Bool) (s : Gives (List Flo
 pub returns-then-root-p : goal.returns-then-root-p
 returns-then-root-p c =
     let a = c.args in
+    let s : Gives (List Float) = record { parents = a.parents.now; answer = a.points.now } in
     let find = c.find-root in
-    let fixed-at = c.fixed_at in
-    let s : Gives (List Float) = record { parents = a.parent.now; answer = a.points.now } in (
-      parents a.axis a.p find.result a.fixed.now fixed-at.result s find.new.p find.ensures.0 find.ensures.1 fixed-at.ensures,
-      follows a.axis a.p find.result a.fixed.now fixed-at.result s find.new.p find.ensures.0 find.ensures.1
-          fixed-at.ensures _ _ c.if-root-p.true c.at-v.ensures
-          c.put.ensures,
+    let at : get_or a.self.now.fixed a.p _ ≡ get_or a.self.now.fixed a.p false = any-default a.self.now.fixed a.p _ false (search rules) in (
+      follows a.self.now.number a.p find.result a.self.now.fixed _ s find.new.p find.ensures.1 find.ensures.0 at _ _ c.if-root-p.true
+          c.at-v.ensures c.put.ensures,
+      parents a.self.now.number a.p find.result a.self.now.fixed _ s find.new.p find.ensures.1 find.ensures.0 at,
     )
 
 pub returns-else-root-p : goal.returns-else-root-p
 returns-else-root-p c =
     let a = c.args in
+    let s : Gives (List Float) = record { parents = a.parents.now; answer = a.points.now } in
     let find = c.find-root in
-    let fixed-at = c.fixed_at in
-    let s : Gives (List Float) = record { parents = a.parent.now; answer = a.points.now } in (
-      parents a.axis a.p find.result a.fixed.now fixed-at.result s find.new.p find.ensures.0 find.ensures.1 fixed-at.ensures,
-      stays a.axis a.p find.result a.fixed.now fixed-at.result s find.new.p find.ensures.0 find.ensures.1
-          fixed-at.ensures c.if-root-p.false,
+    let at : get_or a.self.now.fixed a.p _ ≡ get_or a.self.now.fixed a.p false = any-default a.self.now.fixed a.p _ false (search rules) in (
+      stays a.self.now.number a.p find.result a.self.now.fixed _ s find.new.p find.ensures.1 find.ensures.0 at c.if-root-p.false,
+      parents a.self.now.number a.p find.result a.self.now.fixed _ s find.new.p find.ensures.1 find.ensures.0 at,
     )
