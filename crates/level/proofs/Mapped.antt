@@ -13,7 +13,7 @@ module _ {F A B : Type 0} (g : Mut F (A × Unit {0}) B) (f : A → B) (same : (p
   mapped s xs ys n d e l h =
       ext_get_or e ys (map f xs) (h.long ∙ sym (length-map xs f ∙ l))
       (λ i k.
-          let m : i < n = omega (arith, h.long) in
-          let o : i < length xs = omega arith in
-          let w = h.at i d e m in
-          same w.0 w.1 _ _ w.2 ∙ sym (get_or-map f xs i d e o))
+      let m : i < n = omega (arith, h.long) in
+      let o : i < length xs = omega arith in
+      let w = h.at i d e m in
+      same w.0 w.1 _ _ w.2 ∙ sym (get_or-map f xs i d e o))

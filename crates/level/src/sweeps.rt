@@ -22,6 +22,7 @@ impl Axis {
     ghost use Rattle.sketch.specs.Parts.{equations_of};
 
     // A horizontal or vertical of this axis joins its two points.
+    #[tactic(auto, unfolding(crate::specs::Level::join_equation))]
     fn join_equation(&self, parents: &mut [usize], active: &Active)
         ensures { parents.new ≡ join_equation self.now.number self.now.fixed parents.old active.now }
     {
@@ -32,6 +33,7 @@ impl Axis {
         }
     }
 
+    #[tactic(auto, unfolding(crate::specs::Level::joined))]
     fn join_equations(&self, parents: &mut [usize], equations: &[Active])
         ensures { parents.new ≡ joined self.now.number self.now.fixed equations.now parents.old }
     {
@@ -52,6 +54,7 @@ impl Axis {
     }
 
     // Point p takes its root's coordinate, unless it is fixed.
+    #[tactic(auto, unfolding(crate::specs::Level::level_point))]
     fn level_point(&self, parents: &mut [usize], points: &mut [f64], p: usize)
         requires { p < 40 }
         ensures { Leaves (level_point self.now.number self.now.fixed p (record { parents = parents.old; answer = points.old })) parents.new points.new }

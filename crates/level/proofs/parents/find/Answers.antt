@@ -9,7 +9,7 @@ use borrow.Author.Rules.{rules}
 use lib.ListN.{set}
 use Rattle.loops.proofs.Turning.{while_to-next, while_to-stop, while_to-done}
 use Rattle.groups.proofs.Forest.{halved-up}
-use Rattle.level.specs.Parents.{Gives, up, below, halved, find_of}
+use Rattle.level.specs.Parents.{up, below, halved, find_of}
 use Rattle.level.proofs.parents.find.Goals as goal
 
 root : (ps : List ℕ) (x u : ℕ) → u ≡ up ps x → u ≡ x → below 0 (record { parents = ps; answer = x }) ≡ false
@@ -31,8 +31,8 @@ pub returns-then-parent-x : goal.returns-then-parent-x
 returns-then-parent-x c =
     let l = c.loop in
     let e =
-        while_to-stop below (λ i. halved) 80 l.counter (record { parents = l.p; answer = l.x }) _ (search rules)
-        (root l.p l.x _ c.get_or-parent.ensures c.if-parent-x.true) l.invariant in
+    while_to-stop below (λ i. halved) 80 l.counter (record { parents = l.p; answer = l.x }) _ (search rules)
+    (root l.p l.x _ c.get_or-parent.ensures c.if-parent-x.true) l.invariant in
     (ap (λ g. g.answer) e, ap (λ g. g.parents) e)
 
 pub loop-preserved : goal.loop-preserved

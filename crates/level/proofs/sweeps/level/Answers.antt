@@ -1,8 +1,8 @@
 -- Assumes nothing.
-use mathlib.Core.Path.{◌≡◌, refl}
+use mathlib.Core.Path.{refl}
 use borrow.Author.Rules.{rules}
 use Rattle.loops.proofs.Turning.{up_to-next, up_to-done}
-use Rattle.level.specs.Level.{level_axis, level_of}
+use Rattle.level.specs.Level.{level_of}
 use Rattle.level.proofs.sweeps.level.Goals as goal
 
 pub loop-number-init : goal.loop-number-init
