@@ -3,7 +3,7 @@
 
 #![tactic(auto)]
 
-ghost use Rattle.std.specs.Prelude.{◌≡◌};
+ghost use Rattle.std.specs.Prelude.{◌≡◌, length, min};
 
 use sketch::Ending;
 
@@ -85,7 +85,8 @@ impl Answer {
 
     // The groups that count.
     pub fn groups(&self) -> &[GroupFit]
-        ensures { result.now ≡ groups_of self.now }
+        ensures items { result.now ≡ groups_of self.now }
+        ensures count { length result.now ≡ min self.now.group_count 40 }
     {
         &self.groups[..self.group_count.min(40)]
     }
