@@ -60,7 +60,7 @@ unfolding group_lines
 groups-laid a items n w u e l h k q =
     let m : n ≡ min a.group_count 40 = omega arith in
     let each : rising (λ i. group_line (get_or items i blank_group)) n ≡ rising (λ i. group_line (get_or a.groups i blank_group)) n =
-        rw e (rising-alike _ _ n (λ i j. ap group_line (get_or-take a.group_count a.groups i blank_group (omega arith)))) in
+    rw e (rising-alike _ _ n (λ i j. ap group_line (get_or-take a.group_count a.groups i blank_group (omega arith)))) in
     rw (← m) (rw each at q)
 
 -- ---- the constant of NaN

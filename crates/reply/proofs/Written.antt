@@ -1,5 +1,5 @@
 -- What laying all the bytes from the start comes to. Assumes nothing.
-use Prim.Native.Nat.{ℕ, suc, ◌+◌, ◌≤◌, ◌<◌}
+use Prim.Native.Nat.{ℕ, ◌+◌, ◌≤◌, ◌<◌}
 use mathlib.Core.Bool.{Bool, true, false, cond}
 use mathlib.Core.List.{List, [], ◌∷◌, ◌++◌, append-nil, append_assoc}
 use mathlib.Core.Path.{◌≡◌, refl, sym, ap, ◌∙◌}
@@ -48,7 +48,7 @@ filled (b ∷ bs) p [] w a e h k = absurd (not-suc-le-zero k)
 filled (b ∷ bs) p (x ∷ t) w a e h k =
     let one : length (p ++ b ∷ []) ≡ length p + 1 = length-append p (b ∷ []) in
     let put : set w.reply.now w.at b ≡ (p ++ b ∷ []) ++ t =
-        rw (a, e) (rw add-zero at (set_past p (x ∷ t) (length p) 0 b refl) ∙ sym (append_assoc p (b ∷ []) t)) in
+    rw (a, e) (rw add-zero at (set_past p (x ∷ t) (length p) 0 b refl) ∙ sym (append_assoc p (b ∷ []) t)) in
     ap (λ v. (laying bs v).reply.now) (after-is b w (omega arith))
     ∙ (filled bs (p ++ b ∷ []) t (after w b) (omega arith) put (omega arith) (le_of_suc-le-suc k) ∙ rw (append_assoc p (b ∷ []) bs))
 

@@ -26,16 +26,14 @@ fn lay(reply: &mut [u8], a: &Answer, o: Output) -> usize
 }
 
 // Writes the reply to the head of `reply` where it has room for it, and nothing otherwise. Answers how long the reply is.
-pub fn write(
-    a: &Answer,
-    points: usize,
-    measures: usize,
-    out: &[f64],
-    reply: &mut [u8],
-) -> usize
+pub fn write(a: &Answer, points: usize, measures: usize, out: &[f64], reply: &mut [u8]) -> usize
     ensures { Writes a.now out.now points measures reply.old reply.new result }
 {
-    let o = Output { out, points, measures };
+    let o = Output {
+        out,
+        points,
+        measures,
+    };
     // No reply is longer, so that with this room it is laid at once.
     if 8192 <= reply.len() {
         return lay(reply, a, o);

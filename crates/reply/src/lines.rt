@@ -7,7 +7,8 @@ use sketch::Ending;
 
 impl Writer<'_> {
     ghost use Rattle.reply.specs.Laid.{laying};
-    ghost use Rattle.reply.specs.Lines.{status_line, total_lines, group_line, failed_line, suspect_line, point_line, measure_line};
+    ghost use Rattle.reply.specs.Lines.{status_line, total_lines, group_line, failed_line, point_line, measure_line};
+    ghost use Rattle.reply.specs.Theorems.{c_line};
 
     #[tactic(auto, unfolding(crate::specs::Lines::status_line))]
     pub(crate) fn status_line(&mut self, e: Ending)
@@ -41,27 +42,22 @@ impl Writer<'_> {
     }
 
     #[tactic(auto, unfolding(crate::specs::Lines::failed_line))]
-    pub(crate) fn failed_line(&mut self, g: &GroupFit)
-        ensures { self.new ≡ laying (failed_line g.now) self.old }
+    pub(crate) fn failed_line(&mut self, failing: &GroupFit)
+        ensures { self.new ≡ laying (failed_line failing.now) self.old }
     {
         self.word(b"g=");
-        self.whole(g.lowest, b',');
-        self.whole(g.iterations, b',');
-        self.whole(g.tries, b',');
-        self.whole(g.code, b',');
-        self.whole(g.column, b'\n');
+        self.whole(failing.lowest, b',');
+        self.whole(failing.iterations, b',');
+        self.whole(failing.tries, b',');
+        self.whole(failing.code, b',');
+        self.whole(failing.column, b'\n');
     }
 
-    // Nothing where equation k is no suspect.
-    #[tactic(auto, unfolding(crate::specs::Lines::suspect_line))]
-    pub(crate) fn suspect_line(&mut self, suspects: &[bool; 40], k: usize)
-        requires { k < 40 }
-        ensures { self.new ≡ laying (suspect_line suspects.now k) self.old }
+    pub(crate) fn suspect_line(&mut self, k: usize)
+        ensures { self.new ≡ laying (c_line k) self.old }
     {
-        if suspects[k] {
-            self.word(b"c=");
-            self.whole(k, b'\n');
-        }
+        self.word(b"c=");
+        self.whole(k, b'\n');
     }
 
     #[tactic(auto, using(crate::proofs::Laws::nan_is), unfolding(crate::specs::Lines::point_line))]

@@ -47,8 +47,10 @@ impl Writer<'_> {
         ensures { self.new ≡ laying (failed_lines a.now) self.old }
     {
         self.failed_line(&a.groups[0]);
-        for k in 0..40 {
-            self.suspect_line(&a.suspects, k);
+        for (k, marked) in a.suspects.iter().enumerate() {
+            if *marked {
+                self.suspect_line(k);
+            }
         }
     }
 

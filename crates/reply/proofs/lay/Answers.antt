@@ -18,6 +18,6 @@ returns c =
     record {
       length = n;
       room = λ h.
-        let e : c.reply.new.self.reply.now ≡ written_of bs a.reply.now = ap (λ w. w.reply.now) c.reply.ensures ∙ room bs _ refl few (omega arith) in
-        search (rules, ap (λ w. w.reply.ghost_name) c.reply.ensures ∙ same_name bs _);
+          let e : c.reply.new.self.reply.now ≡ written_of bs a.reply.now = ap (λ w. w.reply.now) c.reply.ensures ∙ room bs _ refl few (omega arith) in
+          search (rules, ap (λ w. w.reply.ghost_name) c.reply.ensures ∙ same_name bs _);
     }
