@@ -44,9 +44,9 @@ pub rising_none : (f : ℕ → List ℕ) → rising f 0 ≡ []
 unfolding rising
 rising_none f = refl
 
-pub rising_more : (f : ℕ → List ℕ) (i : ℕ) → rising f (i + 1) ≡ rising f i ++ f i
+pub rising_next : (f : ℕ → List ℕ) (i : ℕ) (w : Writer) → fold next_byte w (rising f (i + 1)) ≡ fold next_byte (fold next_byte w (rising f i)) (f i)
 unfolding rising
-rising_more f i = rw add-one
+rising_next f i w = rw (add-one, fold-append)
 
 rising-alike : (f g : ℕ → List ℕ) (n : ℕ) → ((i : ℕ) → i < n → f i ≡ g i) → rising f n ≡ rising g n
 unfolding rising

@@ -17,11 +17,11 @@ impl Writer<'_> {
     ghost use Rattle.reply.specs.Laid.{laying};
     ghost use Rattle.reply.specs.Reply.{output_lines, fitted_lines, failed_lines, reply_of};
 
-    #[tactic(auto, using(crate::proofs::Laws::rising_none, crate::proofs::Laws::rising_more), unfolding(crate::specs::Reply::output_lines))]
+    #[tactic(auto, using(crate::proofs::Laws::rising_none, crate::proofs::Laws::rising_next), unfolding(crate::specs::Reply::output_lines))]
     fn output_lines(&mut self, o: Output)
         ensures { self.new ≡ laying (output_lines o.entry.out.now (min o.entry.points 40) (min o.entry.measures 20)) self.old }
     {
-        // A job has no more of either.
+        // A job has no more of either. By number: a NaN is printed for what stands past the end of `out`.
         let points = o.points.min(40);
         for i in 0..points {
             self.point_line(o.out, i);
@@ -31,7 +31,7 @@ impl Writer<'_> {
         }
     }
 
-    #[tactic(auto, using(crate::proofs::Laws::rising_none, crate::proofs::Laws::rising_more), unfolding(crate::specs::Reply::fitted_lines))]
+    #[tactic(auto, using(crate::proofs::Laws::rising_none, crate::proofs::Laws::rising_next), unfolding(crate::specs::Reply::fitted_lines))]
     fn fitted_lines(&mut self, a: &Answer, o: Output)
         ensures { self.new ≡ laying (fitted_lines a.now o.entry.out.now (min o.entry.points 40) (min o.entry.measures 20)) self.old }
     {
@@ -42,7 +42,7 @@ impl Writer<'_> {
         self.output_lines(o);
     }
 
-    #[tactic(auto, using(crate::proofs::Laws::rising_none, crate::proofs::Laws::rising_more), unfolding(crate::specs::Reply::failed_lines))]
+    #[tactic(auto, using(crate::proofs::Laws::rising_none, crate::proofs::Laws::rising_next), unfolding(crate::specs::Reply::failed_lines))]
     fn failed_lines(&mut self, a: &Answer)
         ensures { self.new ≡ laying (failed_lines a.now) self.old }
     {

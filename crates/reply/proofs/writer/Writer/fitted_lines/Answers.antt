@@ -1,11 +1,8 @@
 -- The groups that count are as many as the definition goes over. Assumes nothing.
 use Rattle.loops.proofs.Turning.{fold-append}
 use Rattle.reply.specs.Reply.{fitted_lines}
-use Rattle.reply.proofs.Laws.{rising_more, groups-laid}
+use Rattle.reply.proofs.Laws.{groups-laid}
 use Rattle.reply.proofs.writer.Writer.fitted_lines.Goals as goal
-
-pub loop-g-preserved : goal.loop-g-preserved
-loop-g-preserved c = simp (rising_more, fold-append) (cc)
 
 pub returns : goal.returns
 unfolding fitted_lines
