@@ -25,9 +25,6 @@ unit_rows rows n m = up_to rows 0 (add_unit n m) []
 unfoldable pub add_product : List Float → List Float → ℕ → Float → Float
 add_product v c i s = s ⊕ at v i ⊗ at c i
 
-unfoldable pub less_by : List Float → Float → ℕ → List Float → List Float
-less_by v f i c = set c i (at c i ⊖ f ⊗ at v i)
-
 -- and where v is the first row of the list, and c the row j
 unfoldable pub add_product_at : ℕ → ℕ → List Float → ℕ → Float → Float
 add_product_at n j t i s = s ⊕ at t i ⊗ at t (j * n + i)
