@@ -6,7 +6,7 @@ use Rattle.std.specs.Prelude.{ℕ, ◌+◌, ◌-◌, ◌*◌, ◌≤◌, ◌<◌
 use Rattle.std.specs.Float.Ieee.{eq, ne}
 use Rattle.floats.specs.Lists.{swap_at}
 use Rattle.floats.specs.Magnitude.{magnitude_of}
-use Rattle.floats.specs.Ops.{◌⊕◌, ◌⊖◌, ◌⊗◌, ◌⊘◌, zero⁺, zero⁻, one, two}
+use Rattle.floats.specs.Ops.{◌⊕◌, ◌⊗◌, ◌⊘◌, zero⁺, zero⁻, one, two}
 use Rattle.loops.specs.Turns.{up_to, down_to, while_to}
 use Rattle.root.specs.Root.{sqrt_of}
 use Rattle.solver.specs.Steps.{at, less_past}

@@ -1,14 +1,14 @@
 -- A row's update. Assumes nothing.
 --     as-far       the turns past the row's end write nothing
 --     row-updated  what it does to a row that is lent beside another one of its table, the loop on the whole table does
-use Prim.Native.Nat.{ℕ, ◌+◌, ◌-◌, ◌≤◌, ◌<◌}
+use Prim.Native.Nat.{ℕ, ◌+◌, ◌≤◌, ◌<◌}
 use mathlib.Core.List.{List, ◌++◌}
 use mathlib.Core.Logic.{inl, inr, ◌⊎◌}
 use mathlib.Core.Path.{◌≡◌, refl, sym, ap, ◌∙◌}
 use native.Mathlib.Nat.{le_refl, add-zero}
 use native.Mathlib.Omega.{arith}
 use lib.Ieee.{Float, nan}
-use lib.ListN.{length, get_or, take, drop, set, length-set, length-drop, take-append-drop, get_or-append}
+use lib.ListN.{length, take, drop, set, length-set, length-drop, take-append-drop, get_or-append}
 use lib.Seq.{length-take-le, get_or-take, get_or-drop}
 use Rattle.std.specs.Prelude.{min}
 use Rattle.std.proofs.lemmas.Bool.{cases_lt}

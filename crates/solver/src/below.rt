@@ -37,6 +37,7 @@ fn less_row(a: &mut [f64], b: &mut [f64], n: usize, col: usize, r: usize, f: f64
     b[r] -= f * b[col];
 }
 
+#[tactic(auto, using(loops::proofs::Cells::cells))]
 fn clear_row(a: &mut [f64], b: &mut [f64], n: usize, col: usize, p: f64, r: usize)
     requires { ((col < r) × (r < n)) × ((n * n ≤ length a.old) × (n ≤ length b.old)) }
     ensures { sys a.new b.new ≡ row_of n col p r (sys a.old b.old) }
@@ -46,6 +47,7 @@ fn clear_row(a: &mut [f64], b: &mut [f64], n: usize, col: usize, p: f64, r: usiz
 }
 
 // Clears column `col` in every row after `col`.
+#[tactic(auto, using(loops::proofs::Cells::cells))]
 pub(crate) fn clear_below(a: &mut [f64], b: &mut [f64], n: usize, col: usize)
     requires { (col < n) × ((n * n ≤ length a.old) × (n ≤ length b.old)) }
     ensures { sys a.new b.new ≡ below_of n col (sys a.old b.old) }
