@@ -12,7 +12,6 @@ ghost use Rattle.rows.specs.Located.{seen};
 ghost use Rattle.slopes.specs.Arms.{rows_into};
 
 use crate::dense::{Dense, Rows};
-use crate::through::Leg;
 use plane::Vec2;
 use rows::Ends;
 use rows::vectors::{
@@ -51,19 +50,7 @@ fn parallel(jac: &mut [f64], row: Dense<'_>, i: Line, j: Line) -> usize
     let di = row.points.dir(i);
     let dj = row.points.dir(j);
     row.clear(jac);
-    row.through2(
-        jac,
-        Leg {
-            line: i,
-            dir: di,
-            gu: turned_down(dj.u),
-        },
-        Leg {
-            line: j,
-            dir: dj,
-            gu: turned_up(di.u),
-        },
-    );
+    row.through2(jac, (i, di, turned_down(dj.u)), (j, dj, turned_up(di.u)));
     1
 }
 
@@ -73,19 +60,7 @@ fn perpendicular(jac: &mut [f64], row: Dense<'_>, i: Line, j: Line) -> usize
     let di = row.points.dir(i);
     let dj = row.points.dir(j);
     row.clear(jac);
-    row.through2(
-        jac,
-        Leg {
-            line: i,
-            dir: di,
-            gu: dj.u,
-        },
-        Leg {
-            line: j,
-            dir: dj,
-            gu: di.u,
-        },
-    );
+    row.through2(jac, (i, di, dj.u), (j, dj, di.u));
     1
 }
 
@@ -97,19 +72,7 @@ fn collinear(jac: &mut [f64], rows: Rows<'_>, i: Line, j: Line) -> usize
     let dj = first.points.dir(j);
     let along = turned_up(di.u);
     first.clear(jac);
-    first.through2(
-        jac,
-        Leg {
-            line: i,
-            dir: di,
-            gu: turned_down(dj.u),
-        },
-        Leg {
-            line: j,
-            dir: dj,
-            gu: along,
-        },
-    );
+    first.through2(jac, (i, di, turned_down(dj.u)), (j, dj, along));
     // The start of the second line on the first.
     let q = first.points.offset(i.from, j.from);
     let second = rows.second();

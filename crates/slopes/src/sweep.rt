@@ -21,8 +21,10 @@ fn rows_into(
     columns: &[u8],
     n: usize,
 ) -> usize
-    requires { (row ≤ 78) × (n ≤ 80) }
-    ensures { (laid result j.new ≡ fold (next_row points.entry.places.now columns.now n) (laid row j.old) (rows_of_equation lines.now (seen points.entry) e)) × (result ≤ row + 2) }
+    requires room { row ≤ 78 }
+    requires narrow { n ≤ 80 }
+    ensures stored { laid result j.new ≡ fold (next_row points.entry.places.now columns.now n) (laid row j.old) (rows_of_equation lines.now (seen points.entry) e) }
+    ensures few { result ≤ row + 2 }
 {
     let first = Dense {
         points,

@@ -10,12 +10,7 @@ use rows::vectors::times_vec;
 use sketch::{Line, PointNo, Rad};
 
 // A line, its direction, and the gradient with respect to that.
-#[derive(Clone, Copy)]
-pub(crate) struct Leg {
-    pub line: Line,
-    pub dir: Dir,
-    pub gu: Vec2,
-}
+pub(crate) type Leg = (Line, Dir, Vec2);
 
 impl Dense<'_> {
     // The ends of a line, given the gradient with respect to its direction.
@@ -28,10 +23,10 @@ impl Dense<'_> {
     }
 
     pub fn through2(self, jac: &mut [f64], i: Leg, j: Leg)
-        ensures { jac.new ≡ added self.entry jac.old (through2_of i.line i.dir i.gu j.line j.dir j.gu) }
+        ensures { jac.new ≡ added self.entry jac.old (through2_of i.0 i.1 i.2 j.0 j.1 j.2) }
     {
-        self.through1(jac, i.line, i.dir, i.gu);
-        self.through1(jac, j.line, j.dir, j.gu);
+        self.through1(jac, i.0, i.1, i.2);
+        self.through1(jac, j.0, j.1, j.2);
     }
 
     // The gradient of a circle's radius around c, times `scale`.

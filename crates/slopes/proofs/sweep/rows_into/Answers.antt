@@ -14,4 +14,7 @@ pub returns : goal.returns
 returns c =
     let a = c.args in
     let h : c.gradients.result ≤ 2 = few a.points.places.now a.columns.now a.n a.lines.now (seen a.points) a.e _ a.row _ _ _ c.ends_of.ensures c.gradients.ensures in
-    (rows-laid a.points.places.now a.columns.now a.n a.lines.now (seen a.points) a.e _ a.row _ _ _ c.ends_of.ensures c.gradients.ensures, omega arith)
+    record {
+      stored = rows-laid a.points.places.now a.columns.now a.n a.lines.now (seen a.points) a.e _ a.row _ _ _ c.ends_of.ensures c.gradients.ensures;
+      few = omega arith;
+    }
