@@ -11,7 +11,7 @@ use Rattle.groups.specs.Chains.{points_in, Rises}
 use Rattle.groups.specs.Listed.{grouping_of}
 use Rattle.sketch.specs.Check.{check_of}
 use Rattle.sketch.specs.declared.Build.{Build}
-use Rattle.sketch.specs.declared.Checked.TheVariants.{Passes}
+use Rattle.std.specs.Prelude.{Ok}
 use Rattle.fit.specs.Frames.{frame_of}
 use Rattle.fit.specs.Groups.{LowestIs}
 
@@ -25,7 +25,7 @@ first (x ∷ l) past p m r = (Memᴰ.head refl, λ q n. of q (Memᴰ.cases_cons 
     of q (inr n) = omega (arith, r.0 q n)
 
 module _ (b : Build) (g : ℕ) where
-  pub lowest-is : check_of b ≡ Passes → LowestIs b (grouping_of b) g
+  pub lowest-is : check_of b ≡ Ok tt → LowestIs b (grouping_of b) g
   unfolding frame_of
   lowest-is passes h =
       let c = groups-are-chains b passes in

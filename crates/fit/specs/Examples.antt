@@ -21,7 +21,7 @@ use Rattle.sketch.specs.Involved.{line_at, lines_named}
 use Rattle.sketch.specs.Rows.{more_rows, rows_of}
 use Rattle.sketch.specs.declared.Active.{Active}
 use Rattle.sketch.specs.declared.Build.{Build}
-use Rattle.sketch.specs.declared.Checked.TheVariants.{Passes}
+use Rattle.std.specs.Prelude.{Ok}
 use Rattle.sketch.specs.declared.Equation.{Equation}
 use Rattle.sketch.specs.declared.Line.{Line}
 use Rattle.sketch.specs.declared.LineNo.{LineNo}
@@ -42,7 +42,7 @@ first = sample origin one (replicate 5 blank_point) (line 3 4 ∷ line 0 2 ∷ [
 abbrev second : Build
 second = sample origin one (point_in Kept ∷ point_in Kept ∷ point_in Kept ∷ blank_point ∷ blank_point ∷ []) (line 3 4 ∷ []) (length_is_one 0 ∷ blank_active ∷ []) []
 
-pub passing : (check_of first ≡ Passes) × (check_of second ≡ Passes)
+pub passing : (check_of first ≡ Ok tt) × (check_of second ≡ Ok tt)
 unfolding check_of le lt eq neg of_bits flat_map more_rows rows_of
 passing = (refl, refl)
 

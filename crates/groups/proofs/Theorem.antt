@@ -24,7 +24,7 @@ use Rattle.sketch.specs.Involved.{no_line, line_at, ends, points_in, points_amon
 use Rattle.sketch.specs.Parts.{lines_of, equations_of, measures_of}
 use Rattle.sketch.specs.declared.Active.{Active}
 use Rattle.sketch.specs.declared.Build.{Build}
-use Rattle.sketch.specs.declared.Checked.TheVariants.{Passes}
+use Rattle.std.specs.Prelude.{Ok}
 use Rattle.sketch.specs.declared.Line.{Line}
 use Rattle.sketch.specs.declared.LineNo.{LineNo}
 use Rattle.sketch.specs.declared.PointNo.{PointNo}
@@ -77,8 +77,8 @@ module _ (n m : ℕ) (ls : List Line) (few : n ≤ 40) (lines : every (found_lin
       go : Dec (l.0 < length (take m ls)) → Small (map number (ends ls l))
       go (yes i) =
           let f : found_line n (line_at ls l) ≡ true = rw same at (every-at (found_line n) (take m ls) l.0 no_line lines i) in
-          let t = every-cons (found_field n 0) (point (line_at ls l).from) _ f in
-          let u = every-cons (found_field n 0) (point (line_at ls l).to) _ t.1 in
+          let t = every-cons (found_field n 0) (point (line_at ls l).from) (point (line_at ls l).to ∷ []) f in
+          let u = every-cons (found_field n 0) (point (line_at ls l).to) [] t.1 in
           (below (line_at ls l).from t.0, (below (line_at ls l).to u.0, tt))
       go (no i) =
           let f : line_at ls l ≡ no_line = sym same ∙ get_or-eq_default (take m ls) no_line (omega arith) in
@@ -113,7 +113,7 @@ past es ls k p m = go (dec_lt k (length es)) m
         let e : get_or es k blank_active ≡ blank_active = get_or-eq_default es blank_active (omega arith) in
         absurd (Memᴰ.not-nil (rw e at m))
 
-module _ (b : Build) (passes : check_of b ≡ Passes) where
+module _ (b : Build) (passes : check_of b ≡ Ok tt) where
   counts : (b.point_count ≤ 40) × (b.line_count ≤ 40) × (b.equation_count ≤ 40) × (b.measure_count ≤ 20)
   counts = within b ((given-exactly b).passes.0 passes).0
 

@@ -2,7 +2,7 @@
 -- run's root, and nothing else changes. Assumes nothing.
 use Prim.Native.Nat.{ℕ, zero, suc, ◌≤◌, ◌<◌}
 use mathlib.Core.Bool.{Bool, true, false, cond}
-use mathlib.Core.List.{List}
+use mathlib.Core.List.{List, [], ◌∷◌}
 use mathlib.Core.Logic.{◌≢◌}
 use mathlib.Core.Path.{◌≡◌, sym, ◌∙◌}
 use native.Mathlib.Nat.{min-eq_left}
@@ -17,12 +17,12 @@ use Rattle.sketch.proofs.Given.{given-exactly}
 use Rattle.sketch.proofs.Wholes.{found-lists}
 use Rattle.sketch.proofs.Within.{within}
 use Rattle.sketch.specs.Check.{check_of}
-use Rattle.sketch.specs.Fields.{point}
+use Rattle.sketch.specs.Fields.{point, axis as the_axis}
 use Rattle.sketch.specs.Indices.{found_field, found_equation, found_active}
 use Rattle.sketch.specs.Parts.{equations_of}
 use Rattle.sketch.specs.declared.Active.{Active}
 use Rattle.sketch.specs.declared.Build.{Build}
-use Rattle.sketch.specs.declared.Checked.TheVariants.{Passes}
+use Rattle.std.specs.Prelude.{Ok}
 use Rattle.sketch.specs.declared.Equation.{Equation}
 use Rattle.level.specs.Fixed.{fixed_of, fixed_point}
 use Rattle.level.specs.Level.{levels, nothing, asks_of, place, joined, level_axis, level_of}
@@ -44,8 +44,8 @@ module _ (axis n m a b : ℕ) where
   asked-found : (e : Equation) → found_equation n m e ≡ true → asks_of axis e ≡ levels a b → (a < n) × (b < n)
   asked-found (Equation.Coincident c d) g h = no n a b h
   asked-found (Equation.Level c d ax) g h =
-      let t = every-cons (found_field n m) (point c) _ g in
-      let u = every-cons (found_field n m) (point d) _ t.1 in
+      let t = every-cons (found_field n m) (point c) (point d ∷ the_axis ax ∷ []) g in
+      let u = every-cons (found_field n m) (point d) (the_axis ax ∷ []) t.1 in
       level-found (eqb ax axis) c.0 d.0 h (ltb-true c.0 n t.0, ltb-true d.0 n u.0)
   asked-found (Equation.Parallel i j) g h = no n a b h
   asked-found (Equation.Perpendicular i j) g h = no n a b h
@@ -121,7 +121,7 @@ module _ (fixed : List Bool) (few : length fixed ≤ 40) (es : List Active) (n :
       keep (suc (suc axis)) p h f = absurd (omega arith)
 
 -- the build's array of points has 40 places
-module _ (b : Build) (array : length b.points ≤ 40) (passes : check_of b ≡ Passes) where
+module _ (b : Build) (array : length b.points ≤ 40) (passes : check_of b ≡ Ok tt) where
   count : b.point_count ≤ 40
   count = (within b ((given-exactly b).passes.0 passes).0).0
 

@@ -9,10 +9,7 @@ ghost use Rattle.std.specs.Prelude.{◌≡◌, ◌*◌, min, leb};
 pub fn holds(len: usize, rows: usize, cols: usize) -> bool
     ensures { result ≡ leb (rows * cols) len }
 {
-    if cols == 0 {
-        return true;
-    }
-    rows <= len / cols
+    rows.checked_mul(cols).is_some_and(|n| n <= len)
 }
 
 // The smaller number: how far a loop goes that two counts bound, a place that is within a table, the lower of two roots.

@@ -234,6 +234,16 @@ pub struct Touched {
     pub count: usize,
 }
 
+impl Touched {
+    ghost use Rattle.sketch.specs.Involved.{named_by};
+
+    pub fn points(&self) -> &[PointNo]
+        ensures { result.now ≡ named_by self.now }
+    {
+        &self.points[..self.count.min(4)]
+    }
+}
+
 // The endings of a job, by name; document 01's number of each is `usize::from` of it.
 #[derive(Clone, Copy, Debug, PartialEq, Eq)]
 pub enum Ending {
