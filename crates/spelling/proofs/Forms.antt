@@ -16,8 +16,8 @@ use mathlib.Core.Path.{◌≡◌, refl, sym, ap, subst, ◌∙◌}
 use lib.Dec.{eqb}
 use lib.ListN.{drop}
 use Rattle.std.proofs.Common.{Option, Some, None}
-use Rattle.spelling.specs.Places.{Read, ◌>>=◌, ◌<|>◌, eat_of, word_of, named}
-use Rattle.spelling.proofs.Steps.{Here, begin, some-is, not-both, bound, eat-forward, eat-backward, word-forward, word-backward, starts, no-word}
+use Rattle.spelling.specs.Places.{Read, ◌>>=◌, if_some, eat_of, word_of, named}
+use Rattle.spelling.proofs.Steps.{Here, begin, never, some-is, not-both, bound, eat-forward, eat-backward, word-forward, word-backward, starts, with-starts, no-word}
 
 -- what comes after a whole number or a name: a comma or a newline
 abbrev pub parted : List ℕ → Bool
@@ -158,13 +158,13 @@ module _ {A B M : Type 0} {text : A → List ℕ} {fit : A → Type 0} {mean : A
         (sym (whole a) ∙ ap f v.0 ∙ whole b, v.1);
   }
 
--- One or another: what the second reads, the first does not.
+-- One or another: a word and then the first, where the word stands there, and otherwise the second, which never begins with that word.
 module _ {A B M : Type 0} {text_a : A → List ℕ} {fit_a : A → Type 0} {mean_a : A → M} {read_a : List ℕ → ℕ → Read M}
     {text_b : B → List ℕ} {fit_b : B → Type 0} {mean_b : B → M} {read_b : List ℕ → ℕ → Read M} {before : List ℕ → Bool}
-    (first : Reads text_a fit_a mean_a read_a before) (second : Reads text_b fit_b mean_b read_b before)
-    (apart : (s : List ℕ) (at : ℕ) (b : B) (t : List ℕ) → Here s at (text_b b ++ t) → read_a s at ≡ None) where
+    (w : List ℕ) (first : Reads text_a fit_a mean_a read_a before) (second : Reads text_b fit_b mean_b read_b before)
+    (apart : (b : B) (t : List ℕ) → starts w (text_b b ++ t) ≡ false) where
   abbrev pub text_or : A ⊎ B → List ℕ
-  text_or (inl a) = text_a a
+  text_or (inl a) = w ++ text_a a
   text_or (inr b) = text_b b
 
   abbrev pub fit_or : A ⊎ B → Type 0
@@ -176,33 +176,41 @@ module _ {A B M : Type 0} {text_a : A → List ℕ} {fit_a : A → Type 0} {mean
   mean_or (inr b) = mean_b b
 
   or-forward : (s : List ℕ) (at : ℕ) (p : A ⊎ B) (t : List ℕ) → fit_or p → before t ≡ true → Here s at (text_or p ++ t)
-      → (n : ℕ) × ((read_a s at <|> read_b s at) ≡ Some (mean_or p, n)) × Here s n t
-  or-forward s at (inl a) t g h k = let f = first.forward s at a t g h k in (f.0, rw f.1, f.2)
-  or-forward s at (inr b) t g h k = let f = second.forward s at b t g h k in (f.0, rw (apart s at b t k) f.1, f.2)
+      → (n : ℕ) × (if_some (word_of s at w) (read_a s) (read_b s at) ≡ Some (mean_or p, n)) × Here s n t
+  or-forward s at (inl a) t g h k =
+      let e : Here s at (w ++ (text_a a ++ t)) = rw append_assoc at k in
+      let f = word-forward s w at (text_a a ++ t) e in
+      let q = first.forward s f.0 a t g h f.2 in
+      (q.0, rw f.1 q.1, q.2)
+  or-forward s at (inr b) t g h k =
+      let q = second.forward s at b t g h k in
+      (q.0, rw (no-word s w at (text_b b ++ t) k (apart b t)) q.1, q.2)
 
-  or-backward : (s : List ℕ) (at : ℕ) (t : List ℕ) (m : M) (n : ℕ) → Here s at t → (read_a s at <|> read_b s at) ≡ Some (m, n)
+  or-backward : (s : List ℕ) (at : ℕ) (t : List ℕ) (m : M) (n : ℕ) → Here s at t → if_some (word_of s at w) (read_a s) (read_b s at) ≡ Some (m, n)
       → (p : A ⊎ B) × (u : List ℕ) × fit_or p × (mean_or p ≡ m) × (t ≡ text_or p ++ u) × Here s n u
-  or-backward s at t m n h = go (read_a s at) refl
+  or-backward s at t m n h = go (word_of s at w) refl
     where
-      go : (o : Read M) → read_a s at ≡ o → (o <|> read_b s at) ≡ Some (m, n)
+      go : (o : Option ℕ) → word_of s at w ≡ o → if_some o (read_a s) (read_b s at) ≡ Some (m, n)
           → (p : A ⊎ B) × (u : List ℕ) × fit_or p × (mean_or p ≡ m) × (t ≡ text_or p ++ u) × Here s n u
       go None e k = let q = second.backward s at t m n h k in (inr q.0, q.1, q.2, q.3, q.4, q.5)
-      go (Some r) e k = let q = first.backward s at t m n h (e ∙ k) in (inl q.0, q.1, q.2, q.3, q.4, q.5)
+      go (Some i) e k =
+          let f = word-backward s w at i t h e in
+          let q = first.backward s i f.0 m n f.2 k in
+          (inl q.0, q.1, q.2, q.3, f.1 ∙ ap (λ l. w ++ l) q.4 ∙ sym (append_assoc w (text_a q.0) q.1), q.5)
 
-  -- where both were printed, the first would read it
-  clash : (a : A) (b : B) (t u : List ℕ) → fit_a a → before t ≡ true → text_a a ++ t ≡ text_b b ++ u → ⊥
-  clash a b t u g h e =
-      let s = text_a a ++ t in
-      let f = first.forward s 0 a t g h (begin s) in
-      not-both (sym (apart s 0 b u (subst (λ (l : List ℕ). Here s 0 l) e (begin s))) ∙ f.1)
+  -- no text goes on with both
+  clash : (a : A) (b : B) (t u : List ℕ) → (w ++ text_a a) ++ t ≡ text_b b ++ u → ⊥
+  clash a b t u e = never _ (apart b u) (ap (starts w) (sym e ∙ append_assoc w (text_a a) t) ∙ with-starts w (text_a a ++ t))
 
   or-single : (p q : A ⊎ B) (t u : List ℕ) → fit_or p → fit_or q → before t ≡ true → before u ≡ true → text_or p ++ t ≡ text_or q ++ u → (p ≡ q) × (t ≡ u)
-  or-single (inl a) (inl b) t u g k h i e = let v = first.single a b t u g k h i e in (ap inl v.0, v.1)
+  or-single (inl a) (inl b) t u g k h i e =
+      let v = first.single a b t u g k h i (same-rest w (text_a a ++ t) (text_a b ++ u) (sym (append_assoc w (text_a a) t) ∙ e ∙ append_assoc w (text_a b) u)) in
+      (ap inl v.0, v.1)
   or-single (inr a) (inr b) t u g k h i e = let v = second.single a b t u g k h i e in (ap inr v.0, v.1)
-  or-single (inl a) (inr b) t u g k h i e = absurd (clash a b t u g h e)
-  or-single (inr a) (inl b) t u g k h i e = absurd (clash b a u t k i (sym e))
+  or-single (inl a) (inr b) t u g k h i e = absurd (clash a b t u e)
+  or-single (inr a) (inl b) t u g k h i e = absurd (clash b a u t (sym e))
 
-  pub or-reads : Reads text_or fit_or mean_or (λ s at. read_a s at <|> read_b s at) before
+  pub or-reads : Reads text_or fit_or mean_or (λ s at. if_some (word_of s at w) (read_a s) (read_b s at)) before
   or-reads = record { forward = or-forward; backward = or-backward; single = or-single }
 
 -- One of several names, tried in turn.
@@ -219,7 +227,7 @@ module _ {K : Type 0} (name : K → List ℕ) where
     where
       go : (b : Bool) → starts (name j) (name k ++ t) ≡ b → (named_in l (name k ++ t) ≡ Some k → (n : ℕ) × (named name s at l ≡ Some (k, n)) × Here s n t)
           → cond b (Some j) (named_in l (name k ++ t)) ≡ Some k
-          → (n : ℕ) × (((word_of s at (name j) >>= λ n. Some (j, n)) <|> named name s at l) ≡ Some (k, n)) × Here s n t
+          → (n : ℕ) × (if_some (word_of s at (name j)) (λ n. Some (j, n)) (named name s at l) ≡ Some (k, n)) × Here s n t
       go true e f q =
           let w = word-forward s (name k) at t h in
           let x : word_of s at (name j) ≡ Some w.0 = rw (some-is q) w.1 in
@@ -233,7 +241,7 @@ module _ {K : Type 0} (name : K → List ℕ) where
   named-backward (j ∷ l) s at t k n h e = go (word_of s at (name j)) refl (named-backward l s at t k n h) e
     where
       go : (o : Option ℕ) → word_of s at (name j) ≡ o → (named name s at l ≡ Some (k, n) → (u : List ℕ) × (t ≡ name k ++ u) × Here s n u)
-          → ((o >>= λ n. Some (j, n)) <|> named name s at l) ≡ Some (k, n) → (u : List ℕ) × (t ≡ name k ++ u) × Here s n u
+          → if_some o (λ n. Some (j, n)) (named name s at l) ≡ Some (k, n) → (u : List ℕ) × (t ≡ name k ++ u) × Here s n u
       go None e f q = f q
       go (Some i) e f q =
           let r = read_same q in

@@ -110,7 +110,7 @@ starts [] t = true
 starts (b ∷ w) [] = false
 starts (b ∷ w) (x ∷ t) = cond (eqb x b) (starts w t) false
 
-with-starts : (w u : List ℕ) → starts w (w ++ u) ≡ true
+pub with-starts : (w u : List ℕ) → starts w (w ++ u) ≡ true
 with-starts [] u = refl
 with-starts (b ∷ w) u = rw (eq-eqb b b refl) (with-starts w u)
 

@@ -11,6 +11,11 @@ infixl 10 ◌>>=◌
 abbrev pub ◌>>=◌ : {A B : Type 0} → Option A → (A → Option B) → Option B
 o >>= f = option_and_then f o
 
+-- the one with what was read, or the other where nothing was, as `if let` has it
+abbrev pub if_some : {A B : Type 0} → Option A → (A → B) → B → B
+if_some None f other = other
+if_some (Some a) f other = f a
+
 -- past the byte b, which has to stand there
 unfoldable pub eat_of : List ℕ → ℕ → ℕ → Option ℕ
 eat_of s at b = do
@@ -24,13 +29,7 @@ word_of s at (b ∷ w) = do
   next ← eat_of s at b
   word_of s next w
 
--- one reading, and where it gives nothing another
-infixr 8 ◌<|>◌
-abbrev pub ◌<|>◌ : {A : Type 0} → Option A → Option A → Option A
-Some a <|> p = Some a
-None <|> p = p
-
 -- the first of several that has its name there, and the place after it
 unfoldable pub named : {K : Type 0} → (K → List ℕ) → List ℕ → ℕ → List K → Read K
 named name s at [] = None
-named name s at (k ∷ l) = (word_of s at (name k) >>= λ n. Some (k, n)) <|> named name s at l
+named name s at (k ∷ l) = if_some (word_of s at (name k)) (λ n. Some (k, n)) (named name s at l)
