@@ -1,15 +1,14 @@
 -- A list while the images of another's elements go to its head, and once as many of them are there as there is room for.
 -- Assumes nothing.
-use Prim.Native.Nat.{ℕ, zero, suc, ◌+◌, ◌≤◌, ◌<◌, min}
+use Prim.Native.Nat.{ℕ, zero, suc, ◌≤◌, ◌<◌, min}
 use mathlib.Core.List.{List, [], ◌∷◌, ◌++◌, map}
-use mathlib.Core.Path.{◌≡◌, refl, sym, ap, ◌∙◌}
+use mathlib.Core.Path.{◌≡◌, refl, ap, ◌∙◌}
 use native.Mathlib.Decide.{dec_lt}
 use native.Mathlib.Omega.{arith}
 use lib.Ieee.{Float}
-use lib.ListN.{length, get_or, take, drop, set, length-take, length-map, drop_of_length-le}
-use lib.Seq.{get_or-take, take_all}
+use lib.ListN.{length, take, drop, length-map, drop_of_length-le}
+use lib.Seq.{take_all}
 use Rattle.floats.specs.Lists.{copied_of}
-use Rattle.loops.proofs.Writes.{into_next}
 
 module _ {A B : Type 0} (g : A → B) where
   taken : (n : ℕ) (l : List A) → map g (take n l) ≡ take n (map g l)

@@ -49,6 +49,7 @@ fn gauge_all(measures: &[Measured], lines: &[Line], points: Located<'_>, size: f
 }
 
 // The measures of a build at the points x, y, x, y, .., one after another at the head of out.
+#[tactic(auto, unfolding(crate::specs::Gauges::gauged_of, crate::specs::Gauges::measured_in))]
 pub fn measures(b: &Build, points: &[f64], out: &mut [f64])
     ensures { out.new ≡ measured_in b.now points.now out.old }
 {

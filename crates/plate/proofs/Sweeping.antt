@@ -1,15 +1,13 @@
 -- The loop over the equations goes over all their residuals. Assumes nothing.
-use Prim.Native.Nat.{ℕ, ◌+◌, ◌≤◌, ◌<◌}
+use Prim.Native.Nat.{◌≤◌}
 use mathlib.Core.List.{List, [], ◌∷◌, map}
 use mathlib.Core.Path.{◌≡◌, refl, sym, ap, ◌∙◌}
 use native.Mathlib.Omega.{arith}
 use lib.Ieee.{Float}
-use lib.ListN.{length, get_or, take, drop, length-take}
-use lib.Seq.{get_or-take}
+use lib.ListN.{length}
 use Rattle.floats.specs.Largest.{larger_abs, max_abs_of}
 use Rattle.floats.specs.Ops.{zero⁺}
 use Rattle.loops.proofs.Flat.{map-flat, fold-parts}
-use Rattle.loops.proofs.Turning.{fold_next, fold_done}
 use Rattle.loops.specs.Turns.{fold}
 use Rattle.plane.specs.declared.Vec2.{Vec2}
 use Rattle.rows.proofs.Bounded.{rows-of}

@@ -7,7 +7,7 @@ use Rattle.std.specs.Float.Ieee.{of_bits, add, sub, mul, div, neg, lt, is_nan}
 use Rattle.floats.specs.Largest.{larger_abs, max_abs_of}
 use Rattle.floats.specs.Magnitude.{max_of}
 use Rattle.floats.specs.Ops.{zero⁺, one, two}
-use Rattle.loops.specs.Turns.{turns, up_to, fold}
+use Rattle.loops.specs.Turns.{turns, up_to}
 use Rattle.plane.specs.Vectors.{norm_of, unit_from_of}
 use Rattle.root.specs.Root.{sqrt_of}
 use Rattle.rows.specs.Kinds.{rows_of_equation}

@@ -34,6 +34,7 @@ fn largest(equations: &[Active], lines: &[Line], points: Located<'_>) -> f64
 }
 
 // The largest residual magnitude of a build's equations at the points x, y, x, y, .., infinite where a residual is not finite.
+#[tactic(auto, unfolding(crate::specs::Worst::worst_of))]
 pub fn worst(b: &Build, points: &[f64]) -> f64
     ensures { result ≡ worst_of b.now points.now }
 {

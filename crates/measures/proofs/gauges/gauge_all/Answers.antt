@@ -1,5 +1,5 @@
 -- Assumes nothing.
-use Rattle.std.proofs.Common.{rules, arith}
+use Rattle.std.proofs.Common.{arith}
 use Rattle.loops.proofs.Writes.{into_next}
 use Rattle.measures.specs.Gauges.{gauge_of}
 use Rattle.measures.proofs.Head.{head_done}

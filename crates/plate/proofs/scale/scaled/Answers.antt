@@ -1,5 +1,5 @@
 -- Assumes nothing.
-use Rattle.std.proofs.Common.{rules, refl}
+use Rattle.std.proofs.Common.{rules}
 use Rattle.loops.proofs.Turning.{up_to-next, up_to-done}
 use Rattle.plate.specs.Scale.{all_scaled_of}
 use Rattle.plate.proofs.scale.scaled.Goals as goal

@@ -1,4 +1,4 @@
-use Rattle.std.proofs.Common.{◌≡◌, length, min}
+use Rattle.std.proofs.Common.{◌≡◌, min}
 use Rattle.loops.specs.Turns.{up_to}
 use Rattle.plate.specs.Scale.{scale_at, all_scaled_of}
 use Rattle.plate.proofs.scale.scaled.Given as goal
