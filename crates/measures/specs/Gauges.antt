@@ -6,7 +6,6 @@ use Rattle.plate.specs.Scale.{places_in, coordinates_in}
 use Rattle.rows.specs.Entries.{no_row}
 use Rattle.rows.specs.Kinds.{rows_of_equation}
 use Rattle.rows.specs.Located.{at_of}
-use Rattle.rows.specs.declared.answer.Values.{Values}
 use Rattle.sketch.specs.Parts.{measures_of}
 use Rattle.sketch.specs.declared.Build.{Build}
 use Rattle.sketch.specs.declared.Equation.{Equation}
@@ -21,12 +20,6 @@ equation_of (Measure.AxisDistance a b axis side) = Equation.AxisDistance a b axi
 equation_of (Measure.Length l) = Equation.Length l zero⁺
 equation_of (Measure.PointLine p l side) = Equation.PointLine p l zero⁺ side
 equation_of (Measure.Radius c f) = Equation.Radius c f zero⁺
-
--- r[0], of residuals as the code hands them out
-abbrev pub first_of : Values → Float
-first_of Values.None = zero⁺
-first_of (Values.One v) = v
-first_of (Values.Two v w) = v
 
 -- r[0] * self.size, where r are the residuals at x
 unfoldable pub gauge_of : List Line → List ℕ → List Float → Float → Measured → Float

@@ -1,7 +1,8 @@
 // Each measure is its dimension's equation with the value 0, back in the build's size.
 ghost use Rattle.std.specs.Prelude.{map, ◌≡◌};
 ghost use Rattle.floats.specs.Lists.{copied_of};
-ghost use Rattle.measures.specs.Gauges.{equation_of, first_of, gauge_of, measured_in};
+ghost use Rattle.measures.specs.Gauges.{equation_of, gauge_of, measured_in};
+ghost use Rattle.measures.specs.Inside.{first_of};
 
 use plate::{in_order, scaled};
 use rows::answer::Values;
