@@ -4,7 +4,7 @@ use borrow.Author.Rules.{rules}
 use lib.Ieee.{neg, of_bits}
 use Rattle.loops.proofs.Turning.{up_to-next, up_to-done}
 use Rattle.normal.specs.Normal.{add_step, step_of}
-use Rattle.normal.proofs.step.step_of.Goals as goal
+use Rattle.normal.proofs.jacobian.Jacobian.step_of.Goals as goal
 
 pub loop-i-init : goal.loop-i-init
 unfolding step_of neg of_bits

@@ -4,7 +4,7 @@ use borrow.Author.Rules.{rules}
 use lib.Ieee.{neg, of_bits}
 use Rattle.loops.proofs.Turning.{up_to-next, up_to-done}
 use Rattle.normal.specs.Normal.{add_product, rows_product}
-use Rattle.normal.proofs.half.rows_product.Goals as goal
+use Rattle.normal.proofs.jacobian.Jacobian.rows_product.Goals as goal
 
 pub loop-c-init : goal.loop-c-init
 unfolding rows_product neg of_bits
