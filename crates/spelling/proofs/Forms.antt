@@ -154,9 +154,8 @@ module _ {A M : Type 0} {text : A → List ℕ} {fit : A → Type 0} {mean : A �
 -- The same text printed from something else: f of what was printed, and g the way back.
 module _ {A B M : Type 0} {text : A → List ℕ} {fit : A → Type 0} {mean : A → M} {read : List ℕ → ℕ → Read M} {before : List ℕ → Bool}
     {text_b : B → List ℕ} {fit_b : B → Type 0} {mean_b : B → M}
-    (f : A → B) (g : B → A) (whole : (b : B) → f (g b) ≡ b) (text-is : (a : A) → text_b (f a) ≡ text a) (mean-is : (a : A) → mean_b (f a) ≡ mean a)
-    (fit-to : (b : B) → fit_b b → fit (g b)) (fit-of : (a : A) → fit a → fit_b (f a))
-    (r : Reads text fit mean read before) where
+    (r : Reads text fit mean read before) (f : A → B) (g : B → A) (whole : (b : B) → f (g b) ≡ b) (text-is : (a : A) → text_b (f a) ≡ text a)
+    (mean-is : (a : A) → mean_b (f a) ≡ mean a) (fit-to : (b : B) → fit_b b → fit (g b)) (fit-of : (a : A) → fit a → fit_b (f a)) where
   pub as-reads : Reads text_b fit_b mean_b read before
   as-reads = record {
     forward = λ s at b t p h k.

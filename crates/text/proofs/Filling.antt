@@ -1,10 +1,10 @@
 -- The loop that fills a room with items, and what a build holds then. Assumes nothing.
-use Prim.Native.Nat.{ℕ, zero, suc, ◌+◌, ◌-◌, ◌≤◌, ◌<◌}
+use Prim.Native.Nat.{ℕ, suc, ◌+◌, ◌-◌, ◌≤◌, ◌<◌}
 use mathlib.Core.List.{List, [], ◌∷◌, ◌++◌, append-nil, append_assoc}
-use mathlib.Core.Path.{◌≡◌, refl, sym, ap, ap₂, ◌∙◌}
+use mathlib.Core.Path.{◌≡◌, refl, sym, ap, ◌∙◌}
 use native.Mathlib.Omega.{arith}
 use lib.ListN.{length, take, drop, set, replicate}
-use Rattle.std.proofs.Common.{Option, Some, None, option_map}
+use Rattle.std.proofs.Common.{Some, None, option_map}
 use Rattle.std.proofs.lemmas.List.{take_more_set, drop-replicate, take-append-drop, length-take-le}
 use Rattle.sketch.specs.Blank.{filled}
 use Rattle.spelling.specs.Places.{Read, ◌>>=◌}

@@ -1,22 +1,21 @@
 -- What comes after the counts, put together of its parts. Assumes nothing.
 use Prim.Native.Nat.{ℕ, ◌≤◌}
-use mathlib.Core.Bool.{Bool, false, ◌||◌}
+use mathlib.Core.Bool.{false}
 use mathlib.Core.List.{List}
-use mathlib.Core.Path.{◌≡◌, refl, sym, ap, ◌∙◌}
+use mathlib.Core.Path.{◌≡◌, sym, ap, ◌∙◌}
 use borrow.Author.Tests.{eq-eqb, ltb-false}
 use lib.Dec.{ltb}
 use lib.Ieee.{Float}
 use lib.ListN.{length, take, drop, replicate, length-replicate}
 use native.Mathlib.Omega.{arith}
 use Rattle.loops.proofs.Picks.{none_of_four}
-use Rattle.std.proofs.Common.{Option, Some, None}
+use Rattle.std.proofs.Common.{Option, Some}
 use Rattle.std.proofs.lemmas.List.{length-take-le}
 use Rattle.plane.specs.declared.Vec2.{Vec2}
 use Rattle.phrases.specs.Fields.{vec_at}
 use Rattle.sketch.specs.Blank.{blank_point, blank_active, blank_measured}
 use Rattle.sketch.specs.Involved.{no_line}
 use Rattle.sketch.specs.declared.Active.{Active}
-use Rattle.sketch.specs.declared.Build.{Build}
 use Rattle.sketch.specs.declared.Line.{Line}
 use Rattle.sketch.specs.declared.Measured.{Measured}
 use Rattle.sketch.specs.declared.Point.{Point}

@@ -1,5 +1,5 @@
 -- The whole text, in document 01's order: its length, the form of the four count lines, the counts' bounds, the rest of the form.
-use Rattle.std.specs.Prelude.{Bool, true, false, ◌||◌, List, ℕ, ltb, eqb, length, Option, Some, None, Result, Ok, Err, ok_or, if◌then◌else◌}
+use Rattle.std.specs.Prelude.{Bool, true, false, ◌||◌, List, ℕ, ltb, eqb, length, Option, Some, None, Result, Err, ok_or, if◌then◌else◌}
 use Rattle.phrases.specs.Fields.{vec_at}
 use Rattle.sketch.specs.Blank.{sample}
 use Rattle.sketch.specs.declared.Build.{Build}
