@@ -9,7 +9,7 @@ fn unit(e: &mut [f64], j: usize)
     requires { j < length e.old }
     ensures { e.new ≡ set (replicate (length e.old) zero⁺) j one }
 {
-    floats::clear(e);
+    e.fill(0.0);
     e[j] = 1.0;
 }
 
@@ -28,9 +28,7 @@ fn reflected(e: &mut [f64], n: usize, v: &[f64], rank: usize, j: usize)
     ensures { e.new ≡ laid_vector n rank v.now j }
 {
     unit(e, j);
-    let mut r = rank;
-    while 0 < r {
-        r = r - 1;
+    for r in (0..rank).rev() {
         let start = row_start(r, n, v.len());
         let end = start + n;
         reflect::reflect(&v[start..end], n, e);

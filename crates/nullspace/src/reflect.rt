@@ -1,10 +1,9 @@
 // `reflect`: on a row of the list whose first row is the reflector, and on a vector of its own.
 ghost use Rattle.std.specs.Prelude.{◌≡◌, ◌+◌, ◌*◌, ◌≤◌, length};
 ghost use Rattle.loops.specs.Turns.{up_to};
-ghost use Rattle.solver.specs.Steps.{less_past};
 ghost use Rattle.solver.specs.Sums.{norm2_of};
 ghost use Rattle.nullspace.specs.Steps.{dot_of, less_all, reflect_of};
-ghost use Rattle.nullspace.specs.Layout.{less_by, dot_at, less_row_at, reflect_at, reflected_by};
+ghost use Rattle.nullspace.specs.Layout.{less_by, dot_at, reflect_at, reflected_by};
 
 fn dot_row(t: &[f64], n: usize, j: usize) -> f64
     requires { j * n + n ≤ length t.now }
@@ -12,35 +11,20 @@ fn dot_row(t: &[f64], n: usize, j: usize) -> f64
 {
     let mut s = -0.0;
     for i in 0..n {
-        s = s + t[i] * t[j * n + i];
+        s += t[i] * t[j * n + i];
     }
     s
 }
 
-fn less_past(t: &mut [f64], n: usize, off: usize, f: f64)
-    requires { off + n ≤ length t.old }
-    ensures { t.new ≡ up_to n 0 (less_past off f) t.old }
-{
-    for i in 0..n {
-        t[off + i] = t[off + i] - f * t[i];
-    }
-}
-
-fn less_row(t: &mut [f64], n: usize, j: usize, f: f64)
-    requires { j * n + n ≤ length t.old }
-    ensures { t.new ≡ less_row_at n j f t.old }
-{
-    if f != 0.0 {
-        less_past(t, n, j * n, f);
-    }
-}
-
+#[tactic(auto, unfolding(crate::specs::Layout::reflect_at, crate::specs::Layout::less_row_at))]
 fn reflect_row(t: &mut [f64], n: usize, vv: f64, j: usize)
     requires { j * n + n ≤ length t.old }
     ensures { t.new ≡ reflect_at n vv j t.old }
 {
     let f = 2.0 * dot_row(t, n, j) / vv;
-    less_row(t, n, j, f);
+    if f != 0.0 {
+        solver::row_update(t, n, j * n, f);
+    }
 }
 
 // Each of the `m` rows but the first, which is the reflector.
@@ -67,8 +51,8 @@ fn products(v: &[f64], n: usize, c: &[f64]) -> Sums
     let mut dot = -0.0;
     let mut norm = -0.0;
     for i in 0..n {
-        dot = dot + v[i] * c[i];
-        norm = norm + v[i] * v[i];
+        dot += v[i] * c[i];
+        norm += v[i] * v[i];
     }
     Sums { dot, norm }
 }
@@ -77,8 +61,9 @@ fn less_by(v: &[f64], n: usize, f: f64, c: &mut [f64])
     requires { (length v.now ≡ n) × (length c.old ≡ n) }
     ensures { c.new ≡ up_to n 0 (less_by v.now f) c.old }
 {
+    // By index: what iter_mut writes no proof knows afterwards.
     for i in 0..n {
-        c[i] = c[i] - f * v[i];
+        c[i] -= f * v[i];
     }
 }
 

@@ -11,7 +11,7 @@ fn weight(a: &[f64], y: &[f64], n: usize, r: usize) -> f64
 {
     let mut s = -0.0;
     for c in r + 1..n {
-        s = s + a[r * n + c] * y[c];
+        s += a[r * n + c] * y[c];
     }
     s
 }
@@ -21,9 +21,7 @@ pub(crate) fn substitute(a: &[f64], b: &mut [f64], n: usize)
     requires { (n * n ≤ length a.now) × (length b.old ≡ n) }
     ensures { b.new ≡ back_of n (sys a.now b.old) }
 {
-    let mut r = n;
-    while 0 < r {
-        r = r - 1;
+    for r in (0..n).rev() {
         b[r] = (b[r] - weight(a, b, n, r)) / a[r * n + r];
     }
 }
@@ -31,10 +29,5 @@ pub(crate) fn substitute(a: &[f64], b: &mut [f64], n: usize)
 pub(crate) fn all_finite(y: &[f64]) -> bool
     ensures { result ≡ every finite y.now }
 {
-    for i in 0..y.len() {
-        if !floats::is_finite(y[i]) {
-            return false;
-        }
-    }
-    true
+    y.iter().all(|v| floats::is_finite(*v))
 }

@@ -3,13 +3,14 @@ ghost use Rattle.std.specs.Prelude.{◌≡◌, ◌+◌, ◌*◌, ◌≤◌, ◌<
 ghost use Rattle.loops.specs.Turns.{up_to};
 ghost use Rattle.solver.specs.Steps.{sys, less_past, less_at, less_row, row_of, below_of};
 
-// The places `off` past the first `len` ones, each less `f` times its fellow. `s` starts at the pivot column of the pivot's row.
-fn row_update(s: &mut [f64], len: usize, off: usize, f: f64)
-    requires { off + len ≤ length s.old }
+// The places `off` past the first `len` ones, each less `f` times its fellow, as far as `s` goes.
+pub fn row_update(s: &mut [f64], len: usize, off: usize, f: f64)
     ensures { s.new ≡ up_to len 0 (less_past off f) s.old }
 {
-    for c in 0..len {
-        s[off + c] = s[off + c] - f * s[c];
+    let end = len.min(s.len().saturating_sub(off));
+    // By index: what iter_mut writes no proof knows afterwards.
+    for c in 0..end {
+        s[off + c] -= f * s[c];
     }
 }
 
@@ -31,7 +32,7 @@ fn less_row(a: &mut [f64], b: &mut [f64], n: usize, col: usize, r: usize, f: f64
         return;
     }
     less_part(a, n, col, r, f);
-    b[r] = b[r] - f * b[col];
+    b[r] -= f * b[col];
 }
 
 fn clear_row(a: &mut [f64], b: &mut [f64], n: usize, col: usize, p: f64, r: usize)

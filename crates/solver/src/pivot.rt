@@ -1,27 +1,22 @@
 // The loop over the columns: the pivot, the exchange of two rows, and the rows below it.
-ghost use Rattle.std.specs.Prelude.{◌≡◌, ◌+◌, ◌*◌, ◌≤◌, ◌<◌, false, length};
-ghost use Rattle.std.specs.Float.Ieee.{is_nan};
-ghost use Rattle.loops.specs.Turns.{tried};
-ghost use Rattle.solver.specs.Inside.{Sized, columns_in};
+ghost use Rattle.std.specs.Prelude.{◌≡◌, ◌+◌, ◌*◌, ◌≤◌, ◌<◌, length};
+ghost use Rattle.solver.specs.Inside.{Reaches, Sized, larger_number};
 ghost use Rattle.solver.specs.Lesser.{part_swapped, lesser_swapped, lesser_column, lesser_eliminated};
-ghost use Rattle.solver.specs.Steps.{sys, larger_of, scale_of, larger_row, pivot_of};
+ghost use Rattle.solver.specs.Reasons.{some, or_no_pivot};
+ghost use Rattle.solver.specs.Steps.{sys, scale_of, larger_row, pivot_of};
 
-use crate::below;
+use crate::{Unsolved, below};
 
 // The largest magnitude, NaN skipped, at least 1e-300.
 fn scale(a: &[f64]) -> f64
     ensures { result ≡ scale_of a.now }
 {
-    let mut m = 0.0;
-    for i in 0..a.len() {
-        m = larger(m, a[i]);
-    }
-    floats::max(m, 1e-300)
+    floats::max(a.iter().fold(0.0, |m, v| larger(m, *v)), 1e-300)
 }
 
+// Where m is no NaN, that is the larger of m and the magnitude of v, and no NaN either: so no test for one is needed at the next turn.
 fn larger(m: f64, v: f64) -> f64
-    requires { is_nan m ≡ false }
-    ensures { (result ≡ larger_of m v) × (is_nan result ≡ false) }
+    ensures { result ≡ larger_number m v }
 {
     let a = floats::abs(v);
     if m < a { a } else { m }
@@ -88,30 +83,28 @@ fn swap_in(a: &mut [f64], b: &mut [f64], n: usize, col: usize, piv: usize)
     floats::swap(b, piv, col);
 }
 
-// Clears column `col` below its pivot; false where there is no pivot, and then nothing is said of what is left.
-fn column(a: &mut [f64], b: &mut [f64], n: usize, scale: f64, col: usize) -> bool
+// Clears column `col` below its pivot; where there is none, nothing is said of what is left.
+fn column(a: &mut [f64], b: &mut [f64], n: usize, scale: f64, col: usize) -> Result<(), Unsolved>
     requires { (col < n) × ((n * n ≤ length a.old) × (n ≤ length b.old)) }
-    ensures { tried result (sys a.new b.new) ≡ lesser_column n scale col (sys a.old b.old) }
+    ensures { Reaches (or_no_pivot (lesser_column n scale col (sys a.old b.old)) col some) (sys a.new b.new) result }
 {
     let piv = pivot_row(a, n, col);
     if floats::abs(a[piv * n + col]) <= scale * 1e-15 {
-        return false;
+        return Err(Unsolved::NoPivot(col + 1));
     }
     swap_in(a, b, n, col, piv);
     below::clear_below(a, b, n, col);
-    true
+    Ok(())
 }
 
-// Brings the matrix to upper triangular form: 0, or the column, counted from 1, that has no pivot.
-pub(crate) fn eliminate(a: &mut [f64], b: &mut [f64], n: usize) -> usize
+// Brings the matrix to upper triangular form.
+pub(crate) fn eliminate(a: &mut [f64], b: &mut [f64], n: usize) -> Result<(), Unsolved>
     requires { (n * n ≤ length a.old) × (n ≤ length b.old) }
-    ensures { columns_in result (sys a.new b.new) ≡ lesser_eliminated n (sys a.old b.old) }
+    ensures { Reaches (lesser_eliminated n (sys a.old b.old)) (sys a.new b.new) result }
 {
     let s = scale(a);
     for col in 0..n {
-        if !column(a, b, n, s, col) {
-            return col + 1;
-        }
+        column(a, b, n, s, col)?;
     }
-    0
+    Ok(())
 }

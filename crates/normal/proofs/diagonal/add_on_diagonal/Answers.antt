@@ -22,15 +22,6 @@ offset_bounds-w-i c = search (cells, rules)
 pub bounds-w-i : goal.bounds-w-i
 bounds-w-i c = search (cells, rules)
 
-pub overflow_mul-w-in-loop-i : goal.overflow_mul-w-in-loop-i
-overflow_mul-w-in-loop-i c = search (cells, rules)
-
-pub overflow_add-w-in-loop-i : goal.overflow_add-w-in-loop-i
-overflow_add-w-in-loop-i c = search (cells, rules)
-
-pub offset_bounds-w-i-in-loop-i : goal.offset_bounds-w-i-in-loop-i
-offset_bounds-w-i-in-loop-i c = search (cells, rules)
-
 pub bounds-w-i-in-loop-i : goal.bounds-w-i-in-loop-i
 bounds-w-i-in-loop-i c = search (cells, rules)
 

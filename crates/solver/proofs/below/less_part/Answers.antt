@@ -2,10 +2,10 @@
 use Prim.Native.Nat.{ℕ, ◌+◌, ◌-◌, ◌*◌, ◌≤◌, ◌<◌}
 use mathlib.Core.List.{List, ◌++◌}
 use mathlib.Core.Path.{◌≡◌, sym, ap, ◌∙◌}
-use native.Mathlib.Nat.{mul-le-mul_right, add-zero, le_of_lt}
+use native.Mathlib.Nat.{add-zero, le_of_lt}
 use native.Mathlib.Omega.{arith}
 use lib.Ieee.{Float, nan}
-use lib.ListN.{length, take, drop, take-append-drop, length-drop}
+use lib.ListN.{length, take, drop, take-append-drop}
 use lib.Seq.{length-take-le}
 use Rattle.loops.specs.Turns.{up_to}
 use Rattle.loops.proofs.Turning.{up_to-part}
@@ -14,12 +14,6 @@ use Rattle.loops.proofs.Parts.{tail-part, past-tail, get-past, set_past}
 use Rattle.solver.specs.Steps.{less_at, less_past}
 use borrow.Author.Rules.{rules}
 use Rattle.solver.proofs.below.less_part.Goals as goal
-
--- the last place of row r is within the part
-part-fits : (n col r k : ℕ) → col < r → r < n → n * n ≤ k → (r - col) * n + (n - col) ≤ k - (col * n + col)
-part-fits n col r k h q t =
-    let e : r ≡ col + (r - col) = omega arith in
-    omega (arith, mul-le-mul_right n q, ap (λ x. x * n) e)
 
 -- row r, column col + i of the whole is (r - col) * n + i of the part
 past-start : (n col r i : ℕ) → col ≤ r → r * n + (col + i) ≡ (col * n + col) + ((r - col) * n + i)
@@ -68,9 +62,6 @@ slice_bounds-row_update-start c = start-in _ _ _ c.args.a.now c.requires.0.0 c.r
 
 pub overflow_mul-r : goal.overflow_mul-r
 overflow_mul-r c = cell-mul _ _ _ _ (omega arith) c.requires.1 (omega arith)
-
-pub row_update-requires : goal.row_update-requires
-row_update-requires c = rw (tail-part, length-drop) (part-fits _ _ _ _ (search rules) (search rules) (search rules))
 
 pub returns : goal.returns
 returns c = put_back _ _ _ _ _ _ (search rules) (search rules) (search rules) c.row_update.ensures
