@@ -53,12 +53,13 @@ fn judge(x: &mut [f64], r: &mut [f64], xn: &[f64], rn: &[f64], fit: Fit) -> Resu
     ensures { tried_of x.new r.new result ≡ judged (state_of x.old r.old fit) (some (trial_made xn.now rn.now)) }
 {
     let cost = solver::norm2(rn);
-    if !(floats::is_finite(cost) & (cost < fit.cost)) {
-        return Err(fit.harder(Reason::NotLess));
+    if floats::is_finite(cost) & (cost < fit.cost) {
+        x.copy_from_slice(xn);
+        r.copy_from_slice(rn);
+        Ok(fit.taken(cost))
+    } else {
+        Err(fit.harder(Reason::NotLess))
     }
-    x.copy_from_slice(xn);
-    r.copy_from_slice(rn);
-    Ok(fit.taken(cost))
 }
 
 // A try from x and its residuals r: where it leaves the fit if it is taken, or where the fit stands if not. The step lies where the trial's

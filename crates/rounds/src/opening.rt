@@ -1,6 +1,7 @@
 // How a fit begins: converged at its start, nothing free, or the rounds; and the public call.
 ghost use Rattle.std.specs.Prelude.{◌≡◌, ◌≤◌, length};
 ghost use Rattle.members.specs.Lists.{numbers_of};
+ghost use Rattle.members.specs.Movable.{indices_of};
 ghost use Rattle.rounds.specs.Inside.{Shapes, Matrices, Own, problem_in, jacobian_in, ended_of};
 ghost use Rattle.rounds.specs.Promise.{Solves, Leaves, saying};
 ghost use Rattle.rounds.specs.Solve.{solve_of};
@@ -31,8 +32,8 @@ fn opened(
     all_rounds(p, x, r, j, h, w, Fit::start(solver::norm2(r)))
 }
 
-#[tactic(auto, using(crate::proofs::Begins::table, crate::proofs::Begins::half_table, crate::proofs::Column::rows_few), unfolding(normal::specs::Half::triangle))]
 // The Jacobian lies in a, the half of the product in b and its working copy in c; what they held there is +0.0 afterwards.
+#[tactic(auto, using(crate::proofs::Begins::table, crate::proofs::Begins::half_table, crate::proofs::Column::rows_few), unfolding(normal::specs::Half::triangle))]
 fn in_areas(
     p: &Task<'_>,
     x: &mut [f64],
@@ -50,9 +51,9 @@ fn in_areas(
     let b = &mut b[..rows * (rows + 1) / 2];
     let c = &mut c[..rows * rows];
     let ended = opened(p, x, &mut r[..rows], a, b, c);
-    floats::clear(a);
-    floats::clear(b);
-    floats::clear(c);
+    a.fill(0.0);
+    b.fill(0.0);
+    c.fill(0.0);
     ended
 }
 
@@ -68,7 +69,7 @@ fn refused(why: Refusal) -> Solved
 
 // Fits the coordinates x to the chosen equations by moving the free ones. Where the fit fails, x is as it was.
 pub fn solve(p: &Posed<'_>, x: &mut [f64], a: &mut [f64], b: &mut [f64], c: &mut [f64]) -> Solved
-    ensures { Solves p.now.equations.now p.now.lines.now p.now.places.now p.now.columns.now (numbers_of p.now.chosen.now.0) (numbers_of p.now.free.now.0)
+    ensures { Solves p.now.equations.now p.now.lines.now p.now.places.now p.now.columns.now (numbers_of p.now.chosen.now.0) (indices_of p.now.free.now)
         x.old a.old b.old c.old x.new a.new b.new c.new result }
 {
     let Posed {
@@ -90,7 +91,7 @@ pub fn solve(p: &Posed<'_>, x: &mut [f64], a: &mut [f64], b: &mut [f64], c: &mut
     if 80 < x.len() {
         return refused(Refusal::TooMany);
     }
-    if (a.len() < 6400) | (b.len() < 6400) | (c.len() < 6400) {
+    if a.len() < 6400 || b.len() < 6400 || c.len() < 6400 {
         return refused(Refusal::TooShort);
     }
     let mut here = [0.0; 80];

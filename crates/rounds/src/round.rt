@@ -23,8 +23,7 @@ fn after_round(fitted: bool, tried: Result<Fit, Fit>) -> ControlFlow<Result<Fit,
 {
     match (fitted, tried) {
         (true, Ok(fit)) if 0 < fit.polish => ControlFlow::Continue(fit.polished()),
-        (true, Ok(fit)) => ControlFlow::Break(Ok(fit)),
-        (true, Err(fit)) => ControlFlow::Break(Ok(fit)),
+        (true, Ok(fit) | Err(fit)) => ControlFlow::Break(Ok(fit)),
         (false, Ok(fit)) => ControlFlow::Continue(fit),
         (false, Err(fit)) => ControlFlow::Break(Err(fit)),
     }

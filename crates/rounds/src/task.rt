@@ -20,8 +20,8 @@ pub(crate) struct Task<'a> {
 impl Task<'_> {
     ghost use Rattle.rounds.specs.Inside.{rows_in, values_in, jacobian_in};
 
-    #[tactic(auto, using(crate::proofs::Column::column_is, crate::proofs::Column::rows_few))]
     // The residuals at x go to the head of r; how many they are.
+    #[tactic(auto, using(crate::proofs::Column::column_is, crate::proofs::Column::rows_few))]
     pub(crate) fn values(&self, x: &[f64], r: &mut [f64]) -> usize
         requires { rows_in self.now ≤ length r.old }
         ensures few { result ≤ 80 }
@@ -40,8 +40,8 @@ impl Task<'_> {
         )
     }
 
-    #[tactic(auto, using(crate::proofs::Column::whole_table))]
     // The Jacobian at x, over the whole of j.
+    #[tactic(auto, using(crate::proofs::Column::whole_table))]
     pub(crate) fn jacobian(&self, x: &[f64], j: &mut [f64])
         requires { length j.old ≡ rows_in self.now * length self.now.free.now }
         ensures { j.new ≡ jacobian_in self.now x.now }

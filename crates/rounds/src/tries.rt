@@ -7,9 +7,9 @@ use crate::Fit;
 use crate::attempt::{System, one_try};
 use crate::task::Task;
 
-#[tactic(auto, using(crate::proofs::Turn::tries_next, crate::proofs::Turn::tries_stop, crate::proofs::Turn::tries_done))]
 // At most twelve tries with the Jacobian j, until one is taken: where that leaves the fit, or where it stands if none is. The half of the
 // Jacobian's product goes to h.
+#[tactic(auto, using(crate::proofs::Turn::tries_done))]
 pub(crate) fn all_tries(
     p: &Task<'_>,
     j: &[f64],

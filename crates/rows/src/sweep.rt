@@ -12,7 +12,8 @@ use sketch::{Active, Equation, Line};
 // Puts an equation's residuals from `row` on, and answers the row after them.
 fn values_into(r: &mut [f64], row: usize, e: Equation, lines: &[Line], points: Located<'_>) -> usize
     requires { row ≤ 78 }
-    ensures { (laid result r.new ≡ fold next_value (laid row r.old) (rows_of_equation lines.now (seen points.entry) e)) × (result ≤ row + 2) }
+    ensures stored { laid result r.new ≡ fold next_value (laid row r.old) (rows_of_equation lines.now (seen points.entry) e) }
+    ensures few { result ≤ row + 2 }
 {
     match values(e, ends_of(e, lines), points) {
         Values::None => row,

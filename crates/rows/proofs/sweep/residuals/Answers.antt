@@ -20,10 +20,10 @@ loop-k-preserved c =
     let l = c.loop-k in
     elim c.match-get.branch [
       | in-Some w ↦ (
-        omega (arith, w.values_into-row.ensures.1),
+        omega (arith, w.values_into-row.ensures.few),
         rw (w.row-is, w.r-is)
             (values-turn a.equations.now a.lines.now a.points.places.now a.points.x.now a.chosen.now l.k-index (search rules) _ _ _ _ _ _
-            (ap (λ (e : Active). e.equation) (w.in-Some.ensures.lookup.3.1 blank_active)) w.values_into-row.ensures.0 l.invariant.1),
+            (ap (λ (e : Active). e.equation) (w.in-Some.ensures.lookup.3.1 blank_active)) w.values_into-row.ensures.stored l.invariant.1),
       )
       | in_default w ↦ (
         omega arith,
