@@ -33,6 +33,7 @@ pub fn diag_max(h: &[f64], rows: usize) -> Result<f64, Refusal>
     Ok(floats::max(largest(h, rows), 1e-300))
 }
 
+#[tactic(auto, using(loops::proofs::Cells::cells))]
 fn add_on_diagonal(w: &mut [f64], rows: usize, mu: f64, m: f64)
     requires { rows * rows ≤ length w.old }
     ensures { w.new ≡ damped_of rows mu m w.old }

@@ -17,6 +17,7 @@ pub(crate) fn triangle(i: usize) -> usize
 }
 
 // The product of rows i and k of the Jacobian.
+#[tactic(auto, using(loops::proofs::Cells::cells))]
 fn rows_product(j: &[f64], rows: usize, nf: usize, i: usize, k: usize) -> f64
     requires { (i < rows) × (k < rows) × (rows * nf ≤ length j.now) }
     ensures { result ≡ rows_product nf j.now i k }

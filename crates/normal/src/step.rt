@@ -5,6 +5,7 @@ ghost use Rattle.normal.specs.Promise.{Moves};
 
 use slices::Refusal;
 
+#[tactic(auto, using(loops::proofs::Cells::cells))]
 fn step_of(j: &[f64], y: &[f64], rows: usize, nf: usize, c: usize) -> f64
     requires { (c < nf) × (rows * nf ≤ length j.now) × (rows ≤ length y.now) }
     ensures { result ≡ step_of rows nf j.now y.now c }
@@ -28,6 +29,7 @@ fn move_one(j: &[f64], y: &[f64], free: &[usize], x: &mut [f64], rows: usize, nf
     }
 }
 
+#[tactic(auto, using(loops::proofs::Cells::cells))]
 fn move_all(j: &[f64], y: &[f64], free: &[usize], x: &mut [f64], rows: usize, nf: usize)
     requires { (rows * nf ≤ length j.now) × (rows ≤ length y.now) × (nf ≤ length free.now) }
     ensures { x.new ≡ moved_of rows nf j.now y.now free.now x.old }

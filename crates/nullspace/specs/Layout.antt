@@ -6,7 +6,7 @@ use Rattle.std.specs.Prelude.{ℕ, ◌+◌, ◌-◌, ◌*◌, ◌≤◌, ◌<◌
 use Rattle.std.specs.Float.Ieee.{eq, ne}
 use Rattle.floats.specs.Lists.{swap_at}
 use Rattle.floats.specs.Magnitude.{magnitude_of}
-use Rattle.floats.specs.Ops.{◌⊕◌, ◌⊖◌, ◌⊗◌, ◌⊘◌, zero⁺, zero⁻, one, two}
+use Rattle.floats.specs.Ops.{◌⊕◌, ◌⊗◌, ◌⊘◌, zero⁺, zero⁻, one, two}
 use Rattle.loops.specs.Turns.{up_to, down_to, while_to}
 use Rattle.root.specs.Root.{sqrt_of}
 use Rattle.solver.specs.Steps.{at, less_past}
@@ -24,9 +24,6 @@ unit_rows rows n m = up_to rows 0 (add_unit n m) []
 -- `reflect` by index, on lists of their own
 unfoldable pub add_product : List Float → List Float → ℕ → Float → Float
 add_product v c i s = s ⊕ at v i ⊗ at c i
-
-unfoldable pub less_by : List Float → Float → ℕ → List Float → List Float
-less_by v f i c = set c i (at c i ⊖ f ⊗ at v i)
 
 -- and where v is the first row of the list, and c the row j
 unfoldable pub add_product_at : ℕ → ℕ → List Float → ℕ → Float → Float

@@ -23,6 +23,7 @@ fn row_start(r: usize, n: usize, len: usize) -> usize
     if s <= len - n { s } else { 0 }
 }
 
+#[tactic(auto, using(loops::proofs::Cells::cells))]
 fn reflected(e: &mut [f64], n: usize, v: &[f64], rank: usize, j: usize)
     requires { ((length e.old ≡ n) × (j < n)) × (rank * n ≤ length v.now) }
     ensures { e.new ≡ laid_vector n rank v.now j }
@@ -45,6 +46,7 @@ fn vector(e: &mut [f64], n: usize, v: &[f64], rank: usize, j: usize)
 }
 
 // The vectors one after another at the head of `out`.
+#[tactic(auto, using(loops::proofs::Cells::cells))]
 pub(crate) fn vectors(out: &mut [f64], v: &[f64], n: usize, rank: usize)
     requires { ((rank ≤ n) × (n * n ≤ length out.old)) × (rank * n ≤ length v.now) }
     ensures { out.new ≡ laid_basis n rank v.now ++ drop ((n - rank) * n) out.old }

@@ -49,6 +49,7 @@ fn check(m: &[f64], rows: usize, n: usize, work: &[f64], out: &[f64]) -> Result<
 }
 
 // The same with a working room of the very shape, which is left as the decomposition left it.
+#[tactic(auto, using(loops::proofs::Cells::cells))]
 fn span(m: &[f64], rows: usize, n: usize, work: &mut [f64], out: &mut [f64]) -> usize
     requires { (rows * n ≤ length m.now) × ((length work.old ≡ rows * n) × (n * n ≤ length out.old)) }
     ensures { (result ≡ rank_of (decomposed_of rows n m.now)) × (out.new ≡ vectors_of rows n m.now ++ drop ((n - result) * n) out.old) }

@@ -14,6 +14,7 @@ struct Column {
 }
 
 // What is left of column `j` from `k` on.
+#[tactic(auto, using(loops::proofs::Cells::cells))]
 fn norm_from(t: &[f64], n: usize, k: usize, j: usize) -> f64
     requires { (k < n) × (j * n + n ≤ length t.now) }
     ensures { result ≡ norm_at n k t.now j }
@@ -57,6 +58,7 @@ fn is_ended(first: f64, norm: f64) -> bool
     norm <= first * 1e-10 || norm == 0.0
 }
 
+#[tactic(auto, using(loops::proofs::Cells::cells))]
 fn swap_head(t: &mut [f64], n: usize, p: usize)
     requires { p * n + n ≤ length t.old }
     ensures { t.new ≡ up_to n 0 (swap_head n p) t.old }
@@ -75,6 +77,7 @@ fn push_away(t: &mut [f64], k: usize, norm: f64)
 }
 
 // Makes a reflector of the column `row`, and puts it first.
+#[tactic(auto, using(loops::proofs::Cells::cells))]
 fn make_reflector(t: &mut [f64], n: usize, k: usize, row: usize, norm: f64)
     requires { (k < n) × (row * n + n ≤ length t.old) }
     ensures { t.new ≡ reflector_at n k row norm t.old }
@@ -86,6 +89,7 @@ fn make_reflector(t: &mut [f64], n: usize, k: usize, row: usize, norm: f64)
 
 // The turn of k, on the `m` columns from k on: the first norm of all, where it goes on. Where it does not, nothing is said of what it
 // leaves.
+#[tactic(auto, using(loops::proofs::Cells::cells))]
 fn turn(t: &mut [f64], n: usize, m: usize, k: usize, first: f64) -> Option<f64>
     requires { ((k < n) × (0 < m)) × (m * n ≤ length t.old) }
     ensures { Turned n m k first t.old t.new result }
@@ -104,6 +108,7 @@ fn turn(t: &mut [f64], n: usize, m: usize, k: usize, first: f64) -> Option<f64>
 }
 
 // Makes reflectors of the columns, as many as the rank, and answers the rank.
+#[tactic(auto, using(loops::proofs::Cells::cells))]
 pub(crate) fn decompose(w: &mut [f64], rows: usize, n: usize) -> usize
     requires { rows * n ≤ length w.old }
     ensures { Decomposes rows n w.old w.new result }

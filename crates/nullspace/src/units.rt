@@ -28,6 +28,7 @@ fn unit_row(row: &[f64], to: &mut [f64])
     }
 }
 
+#[tactic(auto, using(loops::proofs::Cells::cells))]
 pub(crate) fn unit_rows(m: &[f64], rows: usize, n: usize, w: &mut [f64])
     requires { (rows * n ≤ length m.now) × (length w.old ≡ rows * n) }
     ensures { w.new ≡ unit_rows rows n m.now }

@@ -5,6 +5,7 @@ ghost use Rattle.loops.specs.Turns.{every};
 ghost use Rattle.solver.specs.Steps.{sys, sum_of, back_of};
 
 // What the answers after row `r` weigh in it.
+#[tactic(auto, using(loops::proofs::Cells::cells))]
 fn weight(a: &[f64], y: &[f64], n: usize, r: usize) -> f64
     requires { (r < n) × ((n * n ≤ length a.now) × (n ≤ length y.now)) }
     ensures { result ≡ sum_of n r a.now y.now }
@@ -17,6 +18,7 @@ fn weight(a: &[f64], y: &[f64], n: usize, r: usize) -> f64
 }
 
 // A place of `b` from row `r` on holds the answer, one before it still the right side.
+#[tactic(auto, using(loops::proofs::Cells::cells))]
 pub(crate) fn substitute(a: &[f64], b: &mut [f64], n: usize)
     requires { (n * n ≤ length a.now) × (length b.old ≡ n) }
     ensures { b.new ≡ back_of n (sys a.now b.old) }

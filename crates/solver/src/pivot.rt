@@ -23,6 +23,7 @@ fn larger(m: f64, v: f64) -> f64
 }
 
 // The row from `col` on with the largest magnitude in column `col`, the lowest one on ties.
+#[tactic(auto, using(loops::proofs::Cells::cells))]
 fn pivot_row(a: &[f64], n: usize, col: usize) -> usize
     requires { (col < n) × (n * n ≤ length a.now) }
     ensures { (result ≡ pivot_of n col a.now) × (result < n) }
@@ -44,6 +45,7 @@ struct Candidate {
     size: u64,
 }
 
+#[tactic(auto, using(loops::proofs::Cells::cells))]
 fn larger_row(a: &[f64], n: usize, col: usize, q: usize, p: Candidate) -> Candidate
     requires { ((q < n) × ((col < n) × (n * n ≤ length a.now))) × Sized n col a.now p }
     ensures { (result.row ≡ larger_row n col a.now q p.row) × Sized n col a.now result }
@@ -58,6 +60,7 @@ fn larger_row(a: &[f64], n: usize, col: usize, q: usize, p: Candidate) -> Candid
 
 // The rows `piv` and `col` from column `col` on: left of it neither is read again. Written out, since `floats::swap` tests its places at
 // every turn.
+#[tactic(auto, using(loops::proofs::Cells::cells))]
 fn swap_rows(a: &mut [f64], n: usize, col: usize, piv: usize)
     requires { ((piv < n) × (col < n)) × (n * n ≤ length a.old) }
     ensures { a.new ≡ part_swapped n col piv a.old }
@@ -84,6 +87,7 @@ fn swap_in(a: &mut [f64], b: &mut [f64], n: usize, col: usize, piv: usize)
 }
 
 // Clears column `col` below its pivot; where there is none, nothing is said of what is left.
+#[tactic(auto, using(loops::proofs::Cells::cells))]
 fn column(a: &mut [f64], b: &mut [f64], n: usize, scale: f64, col: usize) -> Result<(), Unsolved>
     requires { (col < n) × ((n * n ≤ length a.old) × (n ≤ length b.old)) }
     ensures { Reaches (or_no_pivot (lesser_column n scale col (sys a.old b.old)) col some) (sys a.new b.new) result }

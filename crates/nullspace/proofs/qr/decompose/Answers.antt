@@ -53,21 +53,6 @@ pub loop-k-init : goal.loop-k-init
 unfolding laid_out
 loop-k-init c = ((search rules, c.min-last.ensures), refl, rw c.min-last.ensures)
 
-pub overflow_mul-start : goal.overflow_mul-start
-overflow_mul-start c = omega (arith, cell_row c.args.rows c.args.n c.loop-k.k (c.args.rows * c.args.n) (search rules) (le_refl (c.args.rows * c.args.n)))
-
-pub offset_bounds-w-start : goal.offset_bounds-w-start
-offset_bounds-w-start c = omega (arith, cell_row c.args.rows c.args.n c.loop-k.k (c.args.rows * c.args.n) (search rules) (le_refl (c.args.rows * c.args.n)))
-
-pub slice_bounds-turn-count : goal.slice_bounds-turn-count
-slice_bounds-turn-count c = omega (arith, cell_row c.args.rows c.args.n c.loop-k.k (c.args.rows * c.args.n) (search rules) (le_refl (c.args.rows * c.args.n)))
-
-pub slice_bounds-turn-start : goal.slice_bounds-turn-start
-slice_bounds-turn-start c = omega (arith, cell_row c.args.rows c.args.n c.loop-k.k (c.args.rows * c.args.n) (search rules) (le_refl (c.args.rows * c.args.n)))
-
-pub slice_bounds-turn-end : goal.slice_bounds-turn-end
-slice_bounds-turn-end c = omega (arith, cell_row c.args.rows c.args.n c.loop-k.k (c.args.rows * c.args.n) (search rules) (le_refl (c.args.rows * c.args.n)))
-
 pub turn-requires : goal.turn-requires
 turn-requires c = ((search rules, search rules), rw (tail-part, length-drop) (rest-fits _ _ _ _ (search rules) (search rules)))
 

@@ -3,7 +3,6 @@ use Prim.Native.Nat.{ℕ}
 use mathlib.Core.Bool.{Bool, true, false, cond}
 use mathlib.Core.List.{List}
 use mathlib.Core.Path.{◌≡◌, refl, ap, ◌∙◌}
-use native.Mathlib.Nat.{mul-le-mul_right}
 use native.Mathlib.Omega.{arith}
 use borrow.Author.Tests.{eq-eqb, ne_eqb}
 use lib.Dec.{eqb}
@@ -12,7 +11,6 @@ use lib.Ieee.{Float, eq}
 use Rattle.std.specs.Prelude.{Some, None}
 use Rattle.floats.specs.Ops.{zero⁺}
 use Rattle.solver.specs.Sums.{norm2_of}
-use Rattle.loops.proofs.Parts.{front}
 use Rattle.loops.proofs.Picks.{pick_yes, pick_no}
 use Rattle.loops.proofs.Cells.{cell_row}
 use Rattle.nullspace.specs.Steps.{ended}
@@ -61,12 +59,6 @@ returns-then-is_ended c = let e = c.longest-best.ensures in stopped _ _ _ _ _ _ 
 
 pub make_reflector-requires : goal.make_reflector-requires
 make_reflector-requires c = (search rules, omega (arith, cell_row _ _ _ _ c.longest-best.ensures.1.within c.requires.1))
-
-pub slice_bounds-norm2-end : goal.slice_bounds-norm2-end
-slice_bounds-norm2-end c = omega (arith, mul-le-mul_right c.args.n c.requires.0.1, c.make_reflector.auto.t)
-
-pub slice_bounds-norm2-end-2 : goal.slice_bounds-norm2-end-2
-slice_bounds-norm2-end-2 c = front _ _ (omega (arith, mul-le-mul_right c.args.n c.requires.0.1, c.make_reflector.auto.t))
 
 pub returns-then-vv : goal.returns-then-vv
 returns-then-vv c = let e = c.longest-best.ensures in stopped _ _ _ _ _ _ (late _ _ _ _ _ _ _ e.0 e.1.norm _ c.is_ended.ensures c.if-is_ended.false _ c.make_reflector.ensures _ c.norm2-vv.ensures c.if-vv.true)

@@ -7,7 +7,6 @@ use lib.Ieee.{Float, le}
 use Rattle.floats.specs.Ops.{◌⊗◌, 1e-15}
 use Rattle.floats.specs.Magnitude.{abs_of}
 use Rattle.loops.specs.Turns.{go, stop}
-use Rattle.loops.proofs.Cells.{cells}
 use Rattle.loops.proofs.Picks.{pick_yes, pick_no}
 use Rattle.std.specs.Prelude.{Ok, Err}
 use Rattle.solver.specs.declared.Unsolved.TheVariants.{NoPivot}
@@ -15,7 +14,6 @@ use Rattle.solver.specs.Inside.{Reaches}
 use Rattle.solver.specs.Reasons.{some, or_no_pivot}
 use Rattle.solver.specs.Lesser.{lesser_swapped, lesser_column}
 use Rattle.solver.specs.Steps.{sys, at, pivot_of, below_of, singular}
-use borrow.Author.Rules.{rules}
 use Rattle.solver.proofs.pivot.column.Goals as goal
 
 module _ (n col piv : ℕ) (scale x : Float) (a b a₂ b₂ : List Float) (found : piv ≡ pivot_of n col a) (size : x ≡ abs_of (at a (piv * n + col))) where
@@ -31,18 +29,6 @@ module _ (n col piv : ℕ) (scale x : Float) (a b a₂ b₂ : List Float) (found
   cleared a₁ b₁ t s l =
       let e : go (sys a₂ b₂) ≡ lesser_column n scale col (sys a b) = pick_no _ _ _ _ (rw (size, found) at t) (ap go (l ∙ rw (s, found))) in
       rw (← e) record { answer = refl; left = λ t. refl }
-
-pub overflow_mul-piv : goal.overflow_mul-piv
-overflow_mul-piv c = search (cells, rules)
-
-pub overflow_add-piv : goal.overflow_add-piv
-overflow_add-piv c = search (cells, rules)
-
-pub offset_bounds-a-piv : goal.offset_bounds-a-piv
-offset_bounds-a-piv c = search (cells, rules)
-
-pub bounds-a-piv : goal.bounds-a-piv
-bounds-a-piv c = search (cells, rules)
 
 pub returns-then-abs-scale : goal.returns-then-abs-scale
 returns-then-abs-scale c = lacking _ _ _ _ _ _ _ _ _ c.pivot_row-piv.ensures.0 c.abs.ensures c.if-abs-scale.true
