@@ -34,9 +34,6 @@ right n not_finite y t q r i = cc
 -- a system of the very shape, in slices that hold it
 module _ (n : ℕ) (mu m : Float) (h r w w₁ w₂ y : List Float) (d : Answered) (e : solver.Answered) (few : n ≤ 80) (half : triangle n ≤ length h) (long : length r ≡ n) (k : n * n ≤ length w)
     (e₁ : Damps n mu m h w w₁ d) (kept : length w₁ ≡ length w) where
-  pub damping : d ≡ Ok tt
-  damping = e₁.answer ∙ rw (le-ltb 80 n few, le-leb (triangle n) (length h) half, le-leb (n * n) (length w) k)
-
   abbrev damped : List Float
   damped = damped_of n mu m (spread_of n h)
 

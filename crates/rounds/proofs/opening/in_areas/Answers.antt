@@ -44,7 +44,7 @@ returns c =
     let half = half_table rows few in
     record {
       outcome = c.opened-ended.ensures;
-      jacobian = cleared (rows * length p.free.now) _ c.args.a.now c.opened-ended.new.j _ (ap (λ n. n * length p.free.now) e) (omega (arith, rectangle)) c.opened-ended.auto.j c.fill.ensures;
-      product = cleared (rows * (rows + 1) / 2) _ c.args.b.now c.opened-ended.new.h _ (ap (λ n. n * (n + 1) / 2) e) (omega (arith, half)) c.opened-ended.auto.h c.fill-2.ensures;
-      copy = cleared (rows * rows) _ c.args.c.now c.opened-ended.new.w _ (ap (λ n. n * n) e) (omega (arith, square)) c.opened-ended.auto.w c.fill-3.ensures;
+      jacobian = cleared (rows * length p.free.now) _ c.args.a.now c.opened-ended.new.j _ (ap (λ n. n * length p.free.now) e) (omega (arith, rectangle)) c.opened-ended.auto.j (c.fill.ensures.after (λ y h. h));
+      product = cleared (rows * (rows + 1) / 2) _ c.args.b.now c.opened-ended.new.h _ (ap (λ n. n * (n + 1) / 2) e) (omega (arith, half)) c.opened-ended.auto.h (c.fill-2.ensures.after (λ y h. h));
+      copy = cleared (rows * rows) _ c.args.c.now c.opened-ended.new.w _ (ap (λ n. n * n) e) (omega (arith, square)) c.opened-ended.auto.w (c.fill-3.ensures.after (λ y h. h));
     }
