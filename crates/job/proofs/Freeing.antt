@@ -4,7 +4,6 @@ use mathlib.Core.Bool.{Bool, true, false, cond, not, ◌&&◌}
 use mathlib.Core.List.{List}
 use mathlib.Core.Path.{◌≡◌, refl, sym, ◌∙◌}
 use native.Mathlib.Omega.{arith}
-use borrow.Author.Tests.{le-ltb}
 use lib.Ieee.{Float}
 use lib.Dec.{eqb}
 use lib.ListN.{length, get_or, take, length-take, get_or-eq_default}
@@ -25,10 +24,6 @@ use Rattle.sketch.specs.declared.Build.{Build}
 use Rattle.sketch.specs.declared.Point.{Point}
 use Rattle.fit.specs.Groups.{freedom_in}
 use Rattle.job.specs.Groups.{loose_in, loose_at}
-
--- areas that are long enough
-pub roomy : (p q r : List Float) → 6400 ≤ length p → 6400 ≤ length q → 6400 ≤ length r → short p q r ≡ false
-roomy p q r h k l = rw (le-ltb (length p) 6400 h, le-ltb (length q) 6400 k, le-ltb (length r) 6400 l)
 
 counts : (o : Bool) (n : ℕ) → result_unwrap_or (cond o (Err Uncounted.TooManyRows) (Ok n)) 0 ≡ cond o 0 n
 counts true n = refl

@@ -2,24 +2,14 @@
 use Prim.Native.Nat.{ℕ, ◌+◌, ◌*◌, ◌≤◌}
 use mathlib.Core.Bool.{Bool, true, false}
 use mathlib.Core.Path.{◌≡◌, refl}
-use native.Mathlib.Omega.{arith}
 use borrow.Author.Tests.{ltb-false}
 use lib.Dec.{ltb}
-use mir.Syntax.{w64}
-use mir.Val.{Fits}
 use Rattle.std.specs.Prelude.{Ok, Err}
 use Rattle.loops.proofs.Picks.{none_of_four}
 use Rattle.sketch.proofs.Within.{within}
 use Rattle.sketch.specs.Check.{Checked, over_bound, check_of}
 use Rattle.sketch.specs.declared.Build.{Build}
 use Rattle.job.specs.Promise.{no_room, in_order, verdict_of}
-
--- two numbers for each point, and one for each measure
-pub twice-fits : (b : Build) → over_bound b ≡ false → Fits w64 (2 * b.point_count)
-twice-fits b h = let n = (within b h).0 in record { fits = omega arith }
-
-pub output-fits : (b : Build) → over_bound b ≡ false → Fits w64 (2 * b.point_count + b.measure_count)
-output-fits b h = let n = within b h in record { fits = omega (arith, n.0, n.3) }
 
 passed : (o n : Bool) (c : Checked) → in_order o n c ≡ Ok tt → (o ≡ false) × (n ≡ false) × (c ≡ Ok tt)
 passed true n c h = (cc, cc, cc)

@@ -5,7 +5,7 @@ use mathlib.Core.List.{List}
 use mathlib.Core.Path.{◌≡◌, sym, ap, ◌∙◌}
 use native.Mathlib.Omega.{arith}
 use lib.Ieee.{Float}
-use lib.ListN.{length, set}
+use lib.ListN.{length}
 use Rattle.answer.specs.declared.GroupFit.{GroupFit}
 use Rattle.fit.specs.Fits.{outcome_in}
 use Rattle.fit.specs.Promise.{FitsChosen, short, fitted_by, padded}
@@ -16,23 +16,12 @@ use Rattle.fit.specs.declared.NotFitted.{NotFitted}
 use Rattle.rounds.specs.declared.Unfitted.TheVariants.{Failed}
 use Rattle.std.specs.Prelude as std
 use Rattle.std.specs.Prelude.{Ok, Err}
-use Rattle.fit.specs.Groups.{lowest_of, freedom_in}
 use Rattle.groups.specs.declared.Grouping.{Grouping}
 use Rattle.members.specs.Lists.{numbers_of}
-use Rattle.members.specs.Scale.{unscale_of}
 use Rattle.rounds.specs.Solve.{Outcome, converged, failed}
 use Rattle.sketch.specs.declared.Build.{Build}
 use Rattle.job.specs.Groups.{Result, fits, fails, taken_of, failing_by, step_by, step_of, groups_from, begin}
 use Rattle.job.specs.declared.Doing.{Doing}
-
--- ---- what is taken over from a fit
-
-pub taken_is : (b : Build) (f : Frame) (g : ℕ) (x : List Float) (i t : ℕ) (d : Doing) (points : List Float) (n low : ℕ) → n ≡ freedom_in b f x
-    → points ≡ unscale_of b.points b.centre b.size (numbers_of f.points.0) x d.points → low ≡ lowest_of f
-    → record { points = points; freedom = d.freedom + n; groups = set d.groups g (record { lowest = low; freedom = n; iterations = i; tries = t; code = 0; column = 0 }) }
-    ≡ taken_of b f g x i t d
-unfolding taken_of
-taken_is b f g x i t d points n low en ep el = rw (ep, el, en)
 
 -- ---- one group
 
