@@ -1,6 +1,6 @@
 -- What a job answers after each ending (document 01, "The numbers a job ends in" and "The text"; document 02, K6): numbers 1 to 6
 -- and 9 only themselves, 7 the lowest failing group with its reason, and its suspects, 0 the groups, the total freedom and worst.
-use Rattle.std.specs.Prelude.{Bool, false, List, ◌∷◌, ℕ, Float, replicate}
+use Rattle.std.specs.Prelude.{Bool, false, List, ◌∷◌, ℕ, Float, replicate, take}
 use Rattle.floats.specs.Ops.{zero⁺}
 use Rattle.sketch.specs.declared.Ending.{Ending}
 use Rattle.answer.specs.declared.Answer.{Answer}
@@ -39,3 +39,7 @@ fitted_of count groups freedom worst = record {
   groups = groups;
   suspects = replicate 40 false;
 }
+
+-- the groups that count
+abbrev pub groups_of : Answer → List GroupFit
+groups_of a = take a.group_count a.groups

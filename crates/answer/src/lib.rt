@@ -3,14 +3,13 @@
 
 #![tactic(auto)]
 
-ghost use Rattle.std.specs.Prelude.{◌≡◌};
-ghost use Rattle.answer.specs.Endings.{blank_group, refused_of, failed_of, fitted_of};
-ghost use Rattle.sketch.specs.Check.{number_of};
+ghost use Rattle.std.specs.Prelude.{◌≡◌, length, min};
 
 use sketch::Ending;
 
-// A group that was fitted, or the one that failed: its lowest point, its freedom, its iterations and tries.
-#[derive(Clone, Copy)]
+// A group that was fitted, or the one that failed: its lowest point, its freedom, its iterations and tries. What stands past the
+// groups that count is the default.
+#[derive(Clone, Copy, Default)]
 pub struct GroupFit {
     pub lowest: usize,
     pub freedom: usize,
@@ -22,6 +21,7 @@ pub struct GroupFit {
     pub column: usize,
 }
 
+// A struct and no enum of its endings: `reply::write` promises the reply to every answer, one whose other fields are not blank too.
 #[derive(Clone, Copy)]
 pub struct Answer {
     pub ending: Ending,
@@ -36,79 +36,58 @@ pub struct Answer {
     pub suspects: [bool; 40],
 }
 
-// What stands past the groups that count.
-pub fn blank_group() -> GroupFit
-    ensures { result ≡ blank_group }
-{
-    GroupFit {
-        lowest: 0,
-        freedom: 0,
-        iterations: 0,
-        tries: 0,
-        code: 0,
-        column: 0,
-    }
-}
+impl Answer {
+    ghost use Rattle.answer.specs.Endings.{refused_of, failed_of, fitted_of, groups_of};
 
-// A job that ends before its fit: only the ending.
-pub fn refused(e: Ending) -> Answer
-    ensures { result ≡ refused_of e }
-{
-    let blank = blank_group();
-    Answer {
-        ending: e,
-        group_count: 0,
-        freedom: 0,
-        worst: 0.0,
-        groups: [blank; 40],
-        suspects: [false; 40],
+    // A job that ends before its fit: only the ending.
+    pub fn refused(ending: Ending) -> Self
+        ensures { result ≡ refused_of ending }
+    {
+        Answer {
+            ending,
+            group_count: 0,
+            freedom: 0,
+            worst: 0.0,
+            groups: [GroupFit::default(); 40],
+            suspects: [false; 40],
+        }
     }
-}
 
-// A group that does not converge, with its reason, and its suspects.
-pub fn failed(g: GroupFit, suspects: [bool; 40]) -> Answer
-    ensures { result ≡ failed_of g suspects }
-{
-    let blank = blank_group();
-    let mut groups = [blank; 40];
-    groups[0] = g;
-    Answer {
-        ending: Ending::NotConverged,
-        group_count: 1,
-        freedom: 0,
-        worst: 0.0,
-        groups,
-        suspects,
+    // A group that does not converge, with its reason, and its suspects.
+    pub fn failed(g: GroupFit, suspects: [bool; 40]) -> Self
+        ensures { result ≡ failed_of g suspects }
+    {
+        let mut groups = [GroupFit::default(); 40];
+        groups[0] = g;
+        Answer {
+            ending: Ending::NotConverged,
+            group_count: 1,
+            freedom: 0,
+            worst: 0.0,
+            groups,
+            suspects,
+        }
     }
-}
 
-// A fit: its groups, the total freedom and the largest residual magnitude.
-pub fn fitted(count: usize, groups: [GroupFit; 40], freedom: usize, worst: f64) -> Answer
-    ensures { result ≡ fitted_of count groups freedom worst }
-{
-    Answer {
-        ending: Ending::Fitted,
-        group_count: count,
-        freedom,
-        worst,
-        groups,
-        suspects: [false; 40],
+    // A fit: its groups, the total freedom and the largest residual magnitude.
+    pub fn fitted(group_count: usize, groups: [GroupFit; 40], freedom: usize, worst: f64) -> Self
+        ensures { result ≡ fitted_of group_count groups freedom worst }
+    {
+        Answer {
+            ending: Ending::Fitted,
+            group_count,
+            freedom,
+            worst,
+            groups,
+            suspects: [false; 40],
+        }
     }
-}
 
-// Document 01's number of an ending.
-pub fn number(e: Ending) -> usize
-    ensures { result ≡ number_of e }
-{
-    match e {
-        Ending::Fitted => 0,
-        Ending::TooLong => 1,
-        Ending::BadForm => 2,
-        Ending::TooMany => 3,
-        Ending::OutOfBounds => 4,
-        Ending::NoSuchItem => 5,
-        Ending::TooManyRows => 6,
-        Ending::NotConverged => 7,
-        Ending::TooShort => 9,
+    // The groups that count.
+    pub fn groups(&self) -> &[GroupFit]
+        ensures items { result.now ≡ groups_of self.now }
+        ensures count { length result.now ≡ min self.now.group_count 40 }
+    {
+        &self.groups[..self.group_count.min(40)]
     }
 }

@@ -10,7 +10,8 @@
 --     Theorem    and of every build that passes the checks before the fit
 --     Laws       the turns of the code's loops
 --     Counted    as many items as a count says
---     Filled     the row of what each equation touches
+--     Named      the points that a call on an equation hands out
+--     Alone      an array of its places' numbers
 pub mod Forest
 pub mod Links
 pub mod Roots
@@ -22,4 +23,5 @@ pub mod Exactly
 pub mod Theorem
 pub mod Laws
 pub mod Counted
-pub mod Filled
+pub mod Named
+pub mod Alone

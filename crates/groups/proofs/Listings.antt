@@ -16,7 +16,7 @@ use lib.ListN.{length, get_or, set, replicate, length-set, get_or-eq_default, ge
 use lib.Seq.{get_or-set_same, get_or-set_other}
 use Rattle.groups.specs.Listed.{nothing, numbered_of, entered_of, point_of, list_point, list_points, group_of, list_equation, list_equations}
 use Rattle.groups.specs.Parents.{Falls, Gives, root_of}
-use Rattle.groups.specs.declared.Listing.{Listing}
+use Rattle.groups.specs.declared.listing.Listing.{Listing}
 use Rattle.groups.proofs.Forest.{rt, rt-low, rt-rt, Kept, kept_refl, kept_trans, root_kept, root_is}
 use Rattle.loops.proofs.Keeps.{up_to-keeps}
 use Rattle.groups.proofs.Numbers.{leads, Leads, before, lead, lead-tied, lead-not, untied-not, before-zero, before-yes, before-no, before-le}

@@ -4,7 +4,7 @@ use Rattle.std.specs.Prelude.{ℕ, zero, suc, List, [], ◌∷◌, ◌≡◌, re
 use Rattle.std.specs.Float.{binary64}
 use Rattle.std.specs.Float.Ieee.{of_bits}
 use Rattle.floats.specs.Ops.{one}
-use Rattle.loops.specs.Turns.{turns, up_to, fold}
+use Rattle.loops.specs.Turns.{turns, up_to}
 use Rattle.sketch.specs.Blank.{origin, blank_point, blank_active, sample}
 use Rattle.sketch.specs.declared.Active.{Active}
 use Rattle.sketch.specs.declared.Build.{Build}

@@ -8,7 +8,7 @@ use Rattle.sketch.specs.declared.Build.{Build}
 use Rattle.groups.specs.Parents.{Gives, root_of, alone, joined}
 use Rattle.groups.specs.Tied.{tied_of}
 use Rattle.groups.specs.declared.Grouping.{Grouping}
-use Rattle.groups.specs.declared.Listing.{Listing}
+use Rattle.groups.specs.declared.listing.Listing.{Listing}
 
 abbrev pub nothing : Listing
 nothing = record { index = replicate 40 40; of_point = replicate 40 40; count = 0 }

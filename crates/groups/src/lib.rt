@@ -2,7 +2,7 @@
 
 #![tactic(auto)]
 
-mod numbering;
+mod listing;
 mod parents;
 mod sweeps;
 mod tied;
@@ -20,12 +20,4 @@ pub struct Grouping {
     pub of_point: [usize; 40],
     pub of_equation: [usize; 40],
     pub count: usize,
-}
-
-// Groups while their points are being listed: beside them, for each root, its group's number.
-#[derive(Clone, Copy)]
-pub(crate) struct Listing {
-    pub(crate) index: [usize; 40],
-    pub(crate) of_point: [usize; 40],
-    pub(crate) count: usize,
 }

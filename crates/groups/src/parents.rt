@@ -1,66 +1,67 @@
-// The parents: a point's parent is itself or a lower point, so a walk up ends at the lowest point of a tree, its root.
-ghost use Rattle.std.specs.Prelude.{◌≡◌, max, set};
-ghost use Rattle.groups.specs.Parents.{up, Falls, Leaves, root_of, join_to, join_all};
-ghost use Rattle.groups.specs.Touches.{numbers_of};
+// A point's parent is itself or a lower point, so that a walk up ends at the lowest point of a tree, its root.
+ghost use Rattle.std.specs.Prelude.{◌≡◌, map};
+ghost use Rattle.groups.specs.Parents.{Falls};
 
-use loops::smaller;
-use sketch::Touched;
+use sketch::PointNo;
 
-fn up(p: &[usize], x: usize) -> usize
-    ensures { result ≡ up p.now x }
-{
-    if x < p.len() { p[x] } else { x }
+// The parent of each point.
+#[derive(Clone, Copy)]
+pub(crate) struct Parents {
+    pub(crate) above: [usize; 40],
+    ghost falls: { Falls above },
 }
 
-fn put(p: &mut [usize], x: usize, v: usize)
-    ensures { p.new ≡ set p.old x v }
-{
-    if x < p.len() {
-        p[x] = v;
+impl Parents {
+    ghost use Rattle.groups.specs.Parents.{up, Leaves, root_of, join_to, join_all, alone};
+    ghost use Rattle.groups.specs.Touches.{number};
+
+    // Every point is its own root.
+    #[tactic(auto, unfolding(loops::specs::Turns::up_to, loops::specs::Turns::turns, crate::specs::Parents::self_at))]
+    pub(crate) fn alone() -> Parents
+        ensures { result.above ≡ alone }
+    {
+        Parents {
+            above: std::array::from_fn(|p| p),
+        }
     }
-}
 
-fn larger(a: usize, b: usize) -> usize
-    ensures { result ≡ max a b }
-{
-    if a < b { b } else { a }
-}
-
-// The root of x. Each point on the way gets its parent's parent, so that the next walk is half as long.
-pub(crate) fn root(p: &mut [usize], x: usize) -> usize
-    requires { Falls p.old }
-    ensures { Leaves (root_of p.old x) p.new result }
-{
-    let mut x = x;
-    while up(p, x) != x {
-        let above = up(p, up(p, x));
-        put(p, x, above);
-        x = up(p, x);
+    fn parent(&self, x: usize) -> usize
+        ensures { result ≡ up self.now.above x }
+    {
+        slices::get_or(&self.above, x, x)
     }
-    x
-}
 
-// The trees of x and y become one: the larger root goes under the smaller.
-fn join(p: &mut [usize], x: usize, y: usize)
-    requires { Falls p.old }
-    ensures { p.new ≡ join_to x p.old y }
-{
-    let a = root(p, x);
-    let b = root(p, y);
-    let under = larger(a, b);
-    let over = smaller(a, b);
-    put(p, under, over);
-}
+    // The root of x. Each point on the way gets its parent's parent, so that the next walk is half as long.
+    pub(crate) fn root(&mut self, x: usize) -> usize
+        ensures { Leaves (root_of self.old.above x) self.new.above result }
+    {
+        let mut x = x;
+        while self.parent(x) != x {
+            let above = self.parent(self.parent(x));
+            slices::put(&mut self.above, x, above);
+            x = above;
+        }
+        x
+    }
 
-// Each point of an equation joins its first.
-pub(crate) fn join_all(p: &mut [usize], t: Touched)
-    requires { Falls p.old }
-    ensures { p.new ≡ join_all (numbers_of t) p.old }
-{
-    let n = smaller(t.count, 4);
-    let first = t.points[0];
-    for j in 1..n {
-        let q = t.points[j];
-        join(p, first.0, q.0);
+    // The trees of x and y become one: the larger root goes under the smaller.
+    #[tactic(auto, unfolding(crate::specs::Parents::join_to))]
+    fn join(&mut self, x: usize, y: usize)
+        ensures { self.new.above ≡ join_to x self.old.above y }
+    {
+        let a = self.root(x);
+        let b = self.root(y);
+        slices::put(&mut self.above, a.max(b), a.min(b));
+    }
+
+    // Each point of an equation joins its first.
+    pub(crate) fn join_all(&mut self, points: &[PointNo])
+        ensures { self.new.above ≡ join_all (map number points.now) self.old.above }
+    {
+        if let [first, others @ ..] = points {
+            for q in others {
+                self.join(first.0, q.0);
+            }
+        }
     }
 }

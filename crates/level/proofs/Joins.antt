@@ -1,52 +1,26 @@
 -- The roots at the start, and after a join: each point's root is what it was, or one of the joined runs' roots has become the
 -- other's. Assumes nothing.
-use Prim.Native.Nat.{ℕ, ◌+◌, ◌≤◌, ◌<◌}
+use Prim.Native.Nat.{ℕ, ◌≤◌, ◌<◌}
 use mathlib.Core.Bool.{Bool, true, false, cond}
 use mathlib.Core.List.{List}
 use mathlib.Core.Logic.{◌⊎◌, inl, inr, ◌≢◌}
 use mathlib.Core.Path.{◌≡◌, refl, sym, ap, ◌∙◌, subst}
 use native.Mathlib.Decide.{ℕ_discrete, dec_lt}
-use native.Mathlib.Nat.{not-suc-le-zero}
 use native.Mathlib.Omega.{arith}
 use borrow.Author.Tests.{ltb-true, ltb-false, eq-eqb, ne_eqb}
 use lib.Dec.{T, eqb}
-use lib.ListN.{length, set, replicate, length-set, get_or-eq_default}
+use lib.ListN.{length, set, length-set}
 use lib.Seq.{get_or-set_same, get_or-set_other, set_out}
-use Rattle.level.specs.Parents.{up, find_of, greater, a_wins, join_to, self_at, alone}
+use Rattle.level.specs.Parents.{up, find_of, greater, a_wins, join_to, alone}
 use Rattle.level.proofs.Forest.{fixed_at, ranked, rank, inside, stored, rank-small, rank-inside, Has, rooted, find-has, find-is}
-use Rattle.loops.proofs.Keeps.{up_to-keeps}
-
--- the first i points are their own parents
-Own : ℕ → List ℕ → Type 0
-Own i ps = (length ps ≡ 40) × ((x : ℕ) → x < i → up ps x ≡ x)
-
-own-next : (i : ℕ) (ps : List ℕ) → i < 40 → Own i ps → Own (i + 1) (self_at i ps)
-unfolding Own self_at
-own-next i ps h p = (length-set ps i i ∙ p.0, λ x l. at x l (ℕ_discrete x i))
-  where
-    at : (x : ℕ) → x < i + 1 → Dec (x ≡ i) → up (set ps i i) x ≡ x
-    at x l (yes e) = rw e (get_or-set_same ps i i i (rw p.0 h))
-    at x l (no n) = get_or-set_other ps i x i x n ∙ p.1 x (omega arith)
-
-own : Own 40 alone
-unfolding Own
-own = up_to-keeps Own self_at 40 own-next 0 (replicate 40 0) (omega arith) (refl, λ x h. absurd (not-suc-le-zero h))
-
-own-up : (x : ℕ) → up alone x ≡ x
-unfolding Own
-own-up x = go (dec_lt x 40)
-  where
-    go : Dec (x < 40) → up alone x ≡ x
-    go (yes h) = own.1 x h
-    go (no n) = get_or-eq_default alone x (rw own.0 (omega arith))
+use Rattle.groups.proofs.Forest.{alone-own}
 
 module _ (fixed : List Bool) (few : length fixed ≤ 40) where
   pub alone-has : Has fixed few alone (λ x. x)
-  unfolding Own
   alone-has = record {
-    sized = own.0;
-    falls = λ x. rw (own-up x) (omega arith);
-    same = own-up;
+    sized = alone-own.0;
+    falls = λ x. rw (alone-own.1 x) (omega arith);
+    same = alone-own.1;
     top = λ x e. refl;
   }
 

@@ -4,7 +4,7 @@ use Rattle.std.specs.Prelude.{ℕ, [], ◌∷◌, ◌≡◌, refl, Float}
 use Rattle.std.specs.Float.{binary64}
 use Rattle.std.specs.Float.Ieee.{of_bits}
 use Rattle.floats.specs.Ops.{one}
-use Rattle.loops.specs.Turns.{turns, up_to, whiles, while_to, fold}
+use Rattle.loops.specs.Turns.{turns, up_to, whiles, while_to}
 use Rattle.sketch.specs.Blank.{origin, point_in, sample}
 use Rattle.sketch.specs.declared.Active.{Active}
 use Rattle.sketch.specs.declared.Build.{Build}

@@ -1,19 +1,9 @@
--- equations.rs, `level`: its `parent`, its `find`, and the joining of two runs.
-use Rattle.std.specs.Prelude.{ℕ, Bool, true, false, not, cond, List, ◌≡◌, ltb, eqb, get_or, set, replicate}
-use Rattle.loops.specs.Turns.{up_to, while_to}
-
--- the parent of x; a number past the parents is its own root
-abbrev pub up : List ℕ → ℕ → ℕ
-up ps x = get_or ps x x
-
--- what a call on the parents leaves in them, and what it answers
-pub record Gives (A : Type 0) : Type 0 where
-  pub parents : List ℕ
-  pub answer : A
-
--- it leaves the parents ps and answers a
-abbrev pub Leaves : {A : Type 0} → Gives A → List ℕ → A → Type 0
-Leaves g ps a = (ps ≡ g.parents) × (a ≡ g.answer)
+-- equations.rs, `level`: its `parent`, its `find`, and the joining of two runs. The parents of `groups` are the same, a number past
+-- them its own root; only who stays a root differs.
+use Rattle.std.specs.Prelude.{ℕ, Bool, true, false, not, cond, List, ltb, eqb, get_or, set}
+pub use Rattle.groups.specs.Parents.{up, Gives, Leaves, alone}
+unfoldable pub use Rattle.groups.specs.Parents.{self_at}
+use Rattle.loops.specs.Turns.{while_to}
 
 -- p[x] != x
 abbrev pub below : ℕ → Gives ℕ → Bool
@@ -51,10 +41,3 @@ join_to fixed a b ps =
     cond (a_wins fixed ra.answer rb.answer)
     (set rb.parents rb.answer ra.answer)
     (set rb.parents ra.answer rb.answer)
-
--- every point its own parent
-unfoldable pub self_at : ℕ → List ℕ → List ℕ
-self_at i ps = set ps i i
-
-abbrev pub alone : List ℕ
-alone = up_to 40 0 self_at (replicate 40 0)

@@ -5,6 +5,5 @@
 
 mod parents;
 mod sweeps;
-mod table;
 
 pub use sweeps::level;

@@ -1,118 +1,102 @@
 // The sweeps of one axis: over the equations, which join runs, and over the points, which take their root's coordinate.
-ghost use Rattle.std.specs.Prelude.{◌≡◌, ◌+◌, ◌*◌, ◌<◌, min, get_or, take};
+ghost use Rattle.std.specs.Prelude.{◌≡◌, ◌+◌, ◌*◌, ◌<◌, get_or};
 ghost use Rattle.std.specs.Float.{nan};
-ghost use Rattle.level.specs.Level.{join_equation, joined, level_point, level_points, level_axis, level_of};
-ghost use Rattle.level.specs.Parents.{Leaves, alone};
+ghost use Rattle.level.specs.Fixed.{fixed_of};
+ghost use Rattle.level.specs.Level.{level_of};
 
 use crate::parents::{find, join};
-use crate::table::{fixed_at, fixed_points};
-use loops::smaller;
-use sketch::{Active, Build, Equation};
+use sketch::{Active, Build, Equation, Point};
 
-// Every point is its own root.
-fn each_alone() -> [usize; 40]
-    ensures { result ≡ alone }
-{
-    let mut parent = [0; 40];
-    for p in 0..40 {
-        parent[p] = p;
-    }
-    parent
+// One axis, 0 for x and 1 for y, and which points are fixed.
+#[derive(Clone, Copy)]
+struct Axis {
+    number: usize,
+    fixed: [bool; 40],
+    ghost of_two: { number < 2 },
 }
 
-// A horizontal or vertical of this axis joins its two points.
-fn join_equation(parent: &mut [usize], fixed: &[bool], active: Active, axis: usize)
-    ensures { parent.new ≡ join_equation axis fixed.now parent.old active }
-{
-    let e = active.equation;
-    if let Equation::Level(a, b, ax) = e {
-        if ax == axis {
-            join(parent, fixed, a.0, b.0);
+impl Axis {
+    ghost use Rattle.std.specs.Prelude.{min};
+    ghost use Rattle.level.specs.Level.{join_equation, joined, level_point, level_points, level_axis};
+    ghost use Rattle.level.specs.Parents.{Leaves};
+    ghost use Rattle.sketch.specs.Parts.{equations_of};
+
+    // A horizontal or vertical of this axis joins its two points.
+    #[tactic(auto, unfolding(crate::specs::Level::join_equation))]
+    fn join_equation(&self, parents: &mut [usize], active: &Active)
+        ensures { parents.new ≡ join_equation self.now.number self.now.fixed parents.old active.now }
+    {
+        if let Equation::Level(a, b, axis) = active.equation {
+            if axis == self.number {
+                join(parents, &self.fixed, a.0, b.0);
+            }
         }
     }
-}
 
-fn join_equations(
-    parent: &mut [usize],
-    fixed: &[bool],
-    equations: [Active; 40],
-    n: usize,
-    axis: usize,
-)
-    ensures { parent.new ≡ joined axis fixed.now (take n equations) parent.old }
-{
-    let m = smaller(n, 40);
-    for k in 0..m {
-        let a = equations[k];
-        join_equation(parent, fixed, a, axis);
+    #[tactic(auto, unfolding(crate::specs::Level::joined))]
+    fn join_equations(&self, parents: &mut [usize], equations: &[Active])
+        ensures { parents.new ≡ joined self.now.number self.now.fixed equations.now parents.old }
+    {
+        for a in equations {
+            self.join_equation(parents, a);
+        }
+    }
+
+    // A coordinate of point p, and a NaN where the slice ends before it.
+    fn at(&self, points: &[f64], p: usize) -> f64
+        ensures { result ≡ get_or points.now (2 * p + self.now.number) nan }
+    {
+        if p < points.len() {
+            slices::get_or(points, 2 * p + self.number, f64::NAN)
+        } else {
+            f64::NAN
+        }
+    }
+
+    // Point p takes its root's coordinate, unless it is fixed.
+    #[tactic(auto, unfolding(crate::specs::Level::level_point))]
+    fn level_point(&self, parents: &mut [usize], points: &mut [f64], p: usize)
+        requires { p < 40 }
+        ensures { Leaves (level_point self.now.number self.now.fixed p (record { parents = parents.old; answer = points.old })) parents.new points.new }
+    {
+        let root = find(parents, p);
+        if (root != p) & !self.fixed[p] {
+            let v = self.at(points, root);
+            slices::put(points, 2 * p + self.number, v);
+        }
+    }
+
+    fn level_points(&self, parents: &mut [usize], points: &mut [f64], n: usize)
+        ensures { points.new ≡ level_points self.now.number self.now.fixed (min n 40) parents.old points.old }
+    {
+        for p in 0..n.min(40) {
+            self.level_point(parents, points, p);
+        }
+    }
+
+    #[tactic(auto, unfolding(crate::specs::Level::level_axis))]
+    fn level(&self, b: &Build, points: &mut [f64])
+        ensures { points.new ≡ level_axis self.now.fixed (equations_of b.now) (min b.now.point_count 40) self.now.number points.old }
+    {
+        let mut parents: [usize; 40] = std::array::from_fn(|p| p);
+        self.join_equations(&mut parents, b.equations());
+        self.level_points(&mut parents, points, b.point_count);
     }
 }
 
-// A coordinate of point p, and a NaN where the slice ends before it.
-fn at(points: &[f64], p: usize, axis: usize) -> f64
-    requires { axis < 2 }
-    ensures { result ≡ get_or points.now (2 * p + axis) nan }
+fn fixed_points(points: &[Point; 40]) -> [bool; 40]
+    ensures { result ≡ fixed_of points.now }
 {
-    if p < points.len() {
-        floats::get(points, 2 * p + axis)
-    } else {
-        0.0 / 0.0
-    }
-}
-
-// Point p takes its root's coordinate, unless it is fixed.
-fn level_point(parent: &mut [usize], fixed: &[bool], points: &mut [f64], p: usize, axis: usize)
-    requires { (p < 40) × (axis < 2) }
-    ensures { Leaves (level_point axis fixed.now p (record { parents = parent.old; answer = points.old })) parent.new points.new }
-{
-    let root = find(parent, p);
-    if (root != p) & !fixed_at(fixed, p) {
-        let v = at(points, root, axis);
-        floats::put(points, 2 * p + axis, v);
-    }
-}
-
-fn level_points(parent: &mut [usize], fixed: &[bool], points: &mut [f64], n: usize, axis: usize)
-    requires { axis < 2 }
-    ensures { points.new ≡ level_points axis fixed.now (min n 40) parent.old points.old }
-{
-    let m = smaller(n, 40);
-    for p in 0..m {
-        level_point(parent, fixed, points, p, axis);
-    }
-}
-
-fn level_axis(
-    fixed: &[bool],
-    equations: [Active; 40],
-    equation_count: usize,
-    points: &mut [f64],
-    point_count: usize,
-    axis: usize,
-)
-    requires { axis < 2 }
-    ensures { points.new ≡ level_axis fixed.now (take equation_count equations) (min point_count 40) axis points.old }
-{
-    let mut parent = each_alone();
-    join_equations(&mut parent, fixed, equations, equation_count, axis);
-    level_points(&mut parent, fixed, points, point_count, axis);
+    points.map(|p| p.state.is_fixed())
 }
 
 // The points x, y, x, y, .. of a build, levelled.
-pub fn level(b: Build, points: &mut [f64])
-    ensures { points.new ≡ level_of b points.old }
+pub fn level(b: &Build, points: &mut [f64])
+    ensures { points.new ≡ level_of b.now points.old }
 {
-    let all = b.points;
-    let fixed = fixed_points(all);
-    let equations = b.equations;
-    for axis in 0..2 {
-        level_axis(
-            &fixed,
-            equations,
-            b.equation_count,
-            points,
-            b.point_count,
-            axis,
-        );
+    let fixed = fixed_points(&b.points);
+    for number in 0..2 {
+        let axis = Axis { number, fixed };
+        axis.level(b, points);
     }
 }

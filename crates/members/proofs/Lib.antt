@@ -1,6 +1,4 @@
 -- Laws that the functions' proofs go by, and the theorem.
---     Sized       the items of an array that a struct holds
---     Knows       a point that is looked up by a number that may be none
 --     Heads       numbers pushed one after another to the head of an array
 --     Pushes      the turns of the loops that push
 --     Starts      the loop that puts where each point starts
@@ -8,8 +6,6 @@
 --     Theorem     the tables of a group are searches among its points and its free coordinates
 --     Searching   a table that is filled from a list that rises is a search in the list
 --     Readings    lists at the head of an array are read back, and where a fit starts
-pub mod Sized
-pub mod Knows
 pub mod Heads
 pub mod Pushes
 pub mod Starts

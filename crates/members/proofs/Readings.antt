@@ -15,7 +15,7 @@ use Rattle.members.specs.declared.Coordinates.{Coordinates}
 use Rattle.members.specs.Movable.{indices_of, ListsCoordinates}
 use Rattle.members.specs.Scale.{start_of, start_in}
 
-pub numbers-are : (r : Listed) (ps : List ℕ) → Lists r ps → numbers_of r ≡ ps
+pub numbers-are : {n : ℕ} (r : Listed n) (ps : List ℕ) → Lists r ps → numbers_of r ≡ ps
 numbers-are r ps t = rw t.is (take_at ps _ (length ps) refl)
 
 pub indices-are : (f : Coordinates) (cs : List ℕ) → ListsCoordinates f cs → indices_of f ≡ cs

@@ -1,17 +1,16 @@
 -- The loop that puts where each point starts, two numbers a turn. Assumes nothing.
-use Prim.Native.Nat.{ℕ, suc, ◌+◌, ◌*◌, ◌≤◌, ◌<◌, min}
+use Prim.Native.Nat.{ℕ, suc, ◌+◌, ◌*◌, ◌≤◌, ◌<◌}
 use mathlib.Core.List.{List, [], ◌∷◌, ◌++◌, append_assoc}
-use mathlib.Core.Path.{◌≡◌, refl, sym, ap, ◌∙◌}
+use mathlib.Core.Path.{◌≡◌, refl, sym, ◌∙◌}
 use native.Mathlib.Numerals.{add-one}
 use native.Mathlib.Omega.{arith}
 use borrow.Author.Tests.{lt-leb}
 use lib.Ieee.{Float}
 use lib.ListN.{length, get_or, take, drop, set, length-take, length-map, get_or-map}
-use lib.Seq.{length-take-le, get_or-take, take-suc, take_all, drop-cons, set_at}
+use lib.Seq.{take-suc, take_all, drop-cons, set_at}
 use Rattle.loops.proofs.Parts.{set_past}
 use Rattle.plane.specs.declared.Vec2.{Vec2}
 use Rattle.sketch.specs.declared.Point.{Point}
-use Rattle.groups.proofs.Counted.{taken}
 use Rattle.members.specs.Movable.{nowhere, points_at}
 use Rattle.members.specs.Scale.{scaled_of, start_of, start_in}
 use Rattle.members.proofs.Readings.{start-length, starts}
@@ -49,29 +48,25 @@ module _ (centre : Vec2) (size : Float) where
       → x ≡ start_of centre size pts ++ drop (2 * n) x₀
   start-done pts n k x x₀ e h l t = let q : k ≡ n = omega arith in t ∙ rw (take_all k pts (omega arith), q)
 
-module _ (points : List Point) (items : List ℕ) (n : ℕ) (h : n ≤ length items) where
+-- of the points that are listed
+module _ (points : List Point) (items : List ℕ) where
   abbrev at : ℕ → Point
   at p = get_or points p nowhere
 
-  abbrev pts : List Point
-  pts = points_at points (take n items)
+  pub points-length : length (points_at points items) ≡ length items
+  points-length = length-map items at
 
-  pub points-length : length pts ≡ n
-  points-length = length-map (take n items) at ∙ length-take-le n items h
+  pub point-here : (k d : ℕ) → at (get_or items k d) ≡ get_or (points_at points items) k (at d)
+  point-here k d = sym (get_or-map at items k d)
 
-  pub point-here : (k : ℕ) → k < n → at (get_or items k 0) ≡ get_or pts k (at 0)
-  point-here k l = sym (get_or-map at (take n items) k 0 ∙ ap at (get_or-take n items k 0 l))
+  module _ (ps : List ℕ) (e : items ≡ ps) (centre : Vec2) (size : Float) (x : List Float) where
+    pub started : (k : ℕ) (x' : List Float) → length items ≤ k → k ≤ length items → 2 * length items ≤ length x
+        → x' ≡ start_of centre size (take k (points_at points items)) ++ drop (2 * k) x → x' ≡ start_in centre size (points_at points ps) x
+    started k x' l m h q =
+        let n = length items in
+        let all : x' ≡ start_of centre size (points_at points items) ++ drop (2 * n) x = start-done centre size (points_at points items) n k x' x points-length l m q in
+        rw (← e) (all ∙ sym (rw points-length at (starts centre size (points_at points items) x (rw points-length h))))
 
--- the test before it, of as many items as are listed
-module _ (points : List Point) (centre : Vec2) (size : Float) (items : List ℕ) (count n : ℕ) (e : length items ≡ 40) (m : n ≡ min count 40) (x : List Float) where
-  counted : length (points_at points (take n items)) ≡ n
-  counted = points-length points items n (omega arith)
-
-  pub started : (x' : List Float) → 2 * n ≤ length x → x' ≡ start_of centre size (points_at points (take n items)) ++ drop (2 * n) x
-      → x' ≡ start_in centre size (points_at points (take count items)) x
-  started x' h q =
-      rw (← taken items count n 40 e m) (q ∙ sym (rw counted at (starts centre size (points_at points (take n items)) x (rw counted h))))
-
-  pub too-short : length x < 2 * n → x ≡ start_in centre size (points_at points (take count items)) x
-  unfolding start_in
-  too-short h = rw (← taken items count n 40 e m, counted, lt-leb (2 * n) (length x) h)
+    pub too-short : length x < 2 * length items → x ≡ start_in centre size (points_at points ps) x
+    unfolding start_in
+    too-short h = rw (← e, points-length, lt-leb (2 * length items) (length x) h)

@@ -58,10 +58,6 @@ unscale_to points centre size p x k out =
     let q = get_or points p nowhere in
     cond (ltb p (length points)) (put_point p (back_to centre size q.state q.start (coordinates_at x k)) out) out
 
--- the same of a point that is at hand, q, with the number p among 40
-unfoldable pub unscale_one : Point → Vec2 → Float → ℕ → List Float → ℕ → List Float → List Float
-unscale_one q centre size p x k out = cond (ltb p 40) (put_point p (back_to centre size q.state q.start (coordinates_at x k)) out) out
-
 unfoldable pub unscale_at : List Point → Vec2 → Float → List ℕ → List Float → ℕ → List Float → List Float
 unscale_at points centre size ps x k out = unscale_to points centre size (get_or ps k 0) x k out
 

@@ -15,21 +15,48 @@ pub use tables::{columns, places};
 
 // Numbers that rise, and 0 past the count.
 #[derive(Clone, Copy)]
-pub struct Listed {
-    pub items: [usize; 40],
+pub struct Listed<const N: usize> {
+    pub items: [usize; N],
     pub count: usize,
 }
 
-// The numbers of a group's points, and those of its equations: one cannot be taken for the other.
-#[derive(Clone, Copy)]
-pub struct Points(pub Listed);
+impl<const N: usize> Listed<N> {
+    ghost use Rattle.std.specs.Prelude.{◌≡◌, ◌≤◌, ◌<◌, length};
+    ghost use Rattle.members.specs.Lists.{none_in, numbers_of, pushed_of};
 
-#[derive(Clone, Copy)]
-pub struct Equations(pub Listed);
+    // As many as the count says, and no more than there are places.
+    pub fn numbers(&self) -> &[usize]
+        ensures numbers { result.now ≡ numbers_of self.now }
+        ensures few { length result.now ≤ N }
+    {
+        &self.items[..self.count.min(N)]
+    }
 
-// The free coordinates of a group: the k-th point's are 2 k and 2 k + 1. What is past the count is 0.
-#[derive(Clone, Copy)]
-pub struct Coordinates {
-    pub items: [usize; 80],
-    pub count: usize,
+    pub(crate) fn none() -> Self
+        ensures { result ≡ none_in N }
+    {
+        Listed {
+            items: [0; N],
+            count: 0,
+        }
+    }
+
+    pub(crate) fn push(&mut self, v: usize)
+        requires { self.old.count < N }
+        ensures { self.new ≡ pushed_of v self.old }
+    {
+        self.items[self.count] = v;
+        self.count += 1;
+    }
 }
+
+// The numbers of a group's points, those of its equations, and its free coordinates, of which the k-th point's are 2 k and
+// 2 k + 1: one cannot be taken for the other.
+#[derive(Clone, Copy)]
+pub struct Points(pub Listed<40>);
+
+#[derive(Clone, Copy)]
+pub struct Equations(pub Listed<40>);
+
+#[derive(Clone, Copy)]
+pub struct Coordinates(pub Listed<80>);

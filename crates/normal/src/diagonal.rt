@@ -6,7 +6,7 @@ ghost use Rattle.normal.specs.Promise.{Damps, Tops};
 
 use crate::half::triangle;
 use crate::spread::spread;
-use crate::{Largest, Made};
+use slices::Refusal;
 
 fn largest(h: &[f64], rows: usize) -> f64
     requires { (rows ≤ 80) × (triangle rows ≤ length h.now) }
@@ -20,24 +20,26 @@ fn largest(h: &[f64], rows: usize) -> f64
 }
 
 // The largest number on the diagonal of the matrix whose half h is, at least 1e-300.
-pub fn diag_max(h: &[f64], rows: usize) -> Largest
+#[tactic(auto, unfolding(crate::specs::Half::half_max_of))]
+pub fn diag_max(h: &[f64], rows: usize) -> Result<f64, Refusal>
     ensures { Tops rows h.now result }
 {
     if 80 < rows {
-        return Largest::TooMany;
+        return Err(Refusal::TooMany);
     }
-    if triangle(rows) <= h.len() {
-        return Largest::Of(floats::max(largest(h, rows), 1e-300));
+    if h.len() < triangle(rows) {
+        return Err(Refusal::TooShort);
     }
-    Largest::TooShort
+    Ok(floats::max(largest(h, rows), 1e-300))
 }
 
+#[tactic(auto, using(loops::proofs::Cells::cells))]
 fn add_on_diagonal(w: &mut [f64], rows: usize, mu: f64, m: f64)
     requires { rows * rows ≤ length w.old }
     ensures { w.new ≡ damped_of rows mu m w.old }
 {
     for i in 0..rows {
-        w[i * rows + i] = w[i * rows + i] + mu * m;
+        w[i * rows + i] += mu * m;
     }
 }
 
@@ -51,16 +53,16 @@ fn whole_damped(h: &[f64], w: &mut [f64], rows: usize, mu: f64, m: f64)
 }
 
 // The matrix whose half h is with mu * m added on its diagonal, at the head of w.
-pub fn damped(h: &[f64], w: &mut [f64], rows: usize, mu: f64, m: f64) -> Made
+pub fn damped(h: &[f64], w: &mut [f64], rows: usize, mu: f64, m: f64) -> Result<(), Refusal>
     ensures { Damps rows mu m h.now w.old w.new result }
 {
     if 80 < rows {
-        return Made::TooMany;
+        return Err(Refusal::TooMany);
     }
-    if (triangle(rows) <= h.len()) & loops::holds(w.len(), rows, rows) {
-        let nn = rows * rows;
-        whole_damped(h, &mut w[..nn], rows, mu, m);
-        return Made::Done;
+    let nn = rows * rows;
+    if h.len() < triangle(rows) || w.len() < nn {
+        return Err(Refusal::TooShort);
     }
-    Made::TooShort
+    whole_damped(h, &mut w[..nn], rows, mu, m);
+    Ok(())
 }

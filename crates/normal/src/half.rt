@@ -6,7 +6,7 @@ ghost use Rattle.normal.specs.Inside.{put_row};
 ghost use Rattle.normal.specs.Normal.{rows_product};
 ghost use Rattle.normal.specs.Promise.{Multiplies};
 
-use crate::Made;
+use slices::Refusal;
 
 // Where row i of a half begins: the rows before it have 1, 2, .. i numbers.
 pub(crate) fn triangle(i: usize) -> usize
@@ -17,6 +17,7 @@ pub(crate) fn triangle(i: usize) -> usize
 }
 
 // The product of rows i and k of the Jacobian.
+#[tactic(auto, using(loops::proofs::Cells::cells))]
 fn rows_product(j: &[f64], rows: usize, nf: usize, i: usize, k: usize) -> f64
     requires { (i < rows) × (k < rows) × (rows * nf ≤ length j.now) }
     ensures { result ≡ rows_product nf j.now i k }
@@ -25,7 +26,7 @@ fn rows_product(j: &[f64], rows: usize, nf: usize, i: usize, k: usize) -> f64
     let q = k * nf;
     let mut s = -0.0;
     for c in 0..nf {
-        s = s + j[p + c] * j[q + c];
+        s += j[p + c] * j[q + c];
     }
     s
 }
@@ -36,6 +37,7 @@ fn half_row(j: &[f64], h: &mut [f64], rows: usize, nf: usize, i: usize)
     ensures { h.new ≡ put_row nf j.now i h.old }
 {
     let t = triangle(i);
+    // By index: what iter_mut writes no proof knows afterwards.
     for k in 0..i + 1 {
         h[t + k] = rows_product(j, rows, nf, k, i);
     }
@@ -51,15 +53,16 @@ fn half_rows(j: &[f64], h: &mut [f64], rows: usize, nf: usize)
 }
 
 // The half of J Jᵀ, at the head of h.
-pub fn product(j: &[f64], h: &mut [f64], rows: usize, nf: usize) -> Made
+#[tactic(auto, using(crate::proofs::Halves::written))]
+pub fn product(j: &[f64], h: &mut [f64], rows: usize, nf: usize) -> Result<(), Refusal>
     ensures { Multiplies rows nf j.now h.old h.new result }
 {
-    if (80 < rows) | (80 < nf) {
-        return Made::TooMany;
+    if 80 < rows || 80 < nf {
+        return Err(Refusal::TooMany);
     }
-    if loops::holds(j.len(), rows, nf) & (triangle(rows) <= h.len()) {
-        half_rows(j, h, rows, nf);
-        return Made::Done;
+    if j.len() < rows * nf || h.len() < triangle(rows) {
+        return Err(Refusal::TooShort);
     }
-    Made::TooShort
+    half_rows(j, h, rows, nf);
+    Ok(())
 }

@@ -3,15 +3,16 @@ ghost use Rattle.std.specs.Prelude.{◌≡◌, ◌*◌, ◌≤◌, ◌<◌, leng
 ghost use Rattle.normal.specs.Normal.{step_of, move_one, moved_of};
 ghost use Rattle.normal.specs.Promise.{Moves};
 
-use crate::Made;
+use slices::Refusal;
 
+#[tactic(auto, using(loops::proofs::Cells::cells))]
 fn step_of(j: &[f64], y: &[f64], rows: usize, nf: usize, c: usize) -> f64
     requires { (c < nf) × (rows * nf ≤ length j.now) × (rows ≤ length y.now) }
     ensures { result ≡ step_of rows nf j.now y.now c }
 {
     let mut s = -0.0;
     for i in 0..rows {
-        s = s + j[i * nf + c] * y[i];
+        s += j[i * nf + c] * y[i];
     }
     s
 }
@@ -24,10 +25,11 @@ fn move_one(j: &[f64], y: &[f64], free: &[usize], x: &mut [f64], rows: usize, nf
     let s = step_of(j, y, rows, nf, c);
     let at = free[c];
     if at < x.len() {
-        x[at] = x[at] - s;
+        x[at] -= s;
     }
 }
 
+#[tactic(auto, using(loops::proofs::Cells::cells))]
 fn move_all(j: &[f64], y: &[f64], free: &[usize], x: &mut [f64], rows: usize, nf: usize)
     requires { (rows * nf ≤ length j.now) × (rows ≤ length y.now) × (nf ≤ length free.now) }
     ensures { x.new ≡ moved_of rows nf j.now y.now free.now x.old }
@@ -38,15 +40,22 @@ fn move_all(j: &[f64], y: &[f64], free: &[usize], x: &mut [f64], rows: usize, nf
 }
 
 // Every free coordinate moved by its part of the step.
-pub fn moved(j: &[f64], y: &[f64], free: &[usize], x: &mut [f64], rows: usize, nf: usize) -> Made
+pub fn moved(
+    j: &[f64],
+    y: &[f64],
+    free: &[usize],
+    x: &mut [f64],
+    rows: usize,
+    nf: usize,
+) -> Result<(), Refusal>
     ensures { Moves rows nf j.now y.now free.now x.old x.new result }
 {
-    if (80 < rows) | (80 < nf) {
-        return Made::TooMany;
+    if 80 < rows || 80 < nf {
+        return Err(Refusal::TooMany);
     }
-    if loops::holds(j.len(), rows, nf) & (rows <= y.len()) & (nf <= free.len()) {
-        move_all(j, y, free, x, rows, nf);
-        return Made::Done;
+    if j.len() < rows * nf || y.len() < rows || free.len() < nf {
+        return Err(Refusal::TooShort);
     }
-    Made::TooShort
+    move_all(j, y, free, x, rows, nf);
+    Ok(())
 }

@@ -13,9 +13,9 @@ use Rattle.loops.proofs.Both.{up_to-both, up_to-same}
 use Rattle.loops.proofs.Parts.{get-past, set_past}
 use Rattle.loops.proofs.Picks.{either, of-cond}
 use Rattle.loops.specs.Turns.{turns, up_to}
-use Rattle.solver.specs.Steps.{at, less_past}
+use Rattle.solver.specs.Steps.{at, less_by, less_past}
 use Rattle.nullspace.specs.Steps.{dot_of, less_all, reflect_of}
-use Rattle.nullspace.specs.Layout.{add_product, less_by, add_product_at, dot_at, less_row_at, reflect_at, reflected_by}
+use Rattle.nullspace.specs.Layout.{add_product, add_product_at, dot_at, less_row_at, reflect_at, reflected_by}
 use Rattle.nullspace.proofs.Flat.{Wide}
 use Rattle.nullspace.proofs.Zips.{zip-long, zip-dot, zip-less}
 

@@ -15,8 +15,9 @@ use Rattle.floats.specs.Ops.{◌⊕◌, ◌⊖◌, ◌⊗◌, zero⁻}
 use Rattle.loops.proofs.Keeps.{up_to-keeps}
 use Rattle.loops.specs.Turns.{up_to, fold}
 use Rattle.loops.proofs.Turning.{fold-append}
+use Rattle.solver.specs.Steps.{less_by}
 use Rattle.nullspace.specs.Steps.{dot_of}
-use Rattle.nullspace.specs.Layout.{add_product, less_by}
+use Rattle.nullspace.specs.Layout.{add_product}
 
 abbrev pub mixed : ℕ → List Float → List Float → List Float
 mixed i l t = take i l ++ drop i t

@@ -5,7 +5,7 @@ use Rattle.std.specs.Float.{binary64}
 use Rattle.std.specs.Float.Ieee.{of_bits, to_bits, is_nan, neg, add, sub, mul, div, lt, eq, ne, le}
 use Rattle.floats.specs.Magnitude.{magnitude_of}
 use Rattle.floats.specs.Ops.{zero⁺, one, two}
-use Rattle.loops.specs.Turns.{turns, up_to, whiles, while_to, fold}
+use Rattle.loops.specs.Turns.{turns, up_to, whiles, while_to}
 use Rattle.root.specs.Root.{sqrt_of}
 use Rattle.solver.specs.Sums.{add_square, norm2_of}
 use Rattle.nullspace.specs.Steps.{push, collect, scaled_by, unit_of, unit_at, cols_of, dot_of, less_all, reflect_of, norm_of, longer, best_of, ended, swapped, away, reflector_of, reflect_from, turn_of, decomposed, reflect_by, basis_vector, basis_of}

@@ -2,18 +2,17 @@
 -- Steps; that these come to the same is proved in proofs/, by `flatten`. What the Rust keeps in `reflectors` and in `cols` from k on lies in
 -- one list: a column before k is not read again, so the reflector that was made of it stands in its place. A turn is about t, the list from
 -- row k on, which has m rows.
-use Rattle.std.specs.Prelude.{ℕ, ◌+◌, ◌-◌, ◌*◌, ◌≤◌, ◌<◌, min, Bool, true, cond, not, ◌&&◌, List, [], ◌++◌, ◌≡◌, ltb, eqb, take, drop, set, replicate, Float}
+use Rattle.std.specs.Prelude.{ℕ, ◌+◌, ◌-◌, ◌*◌, ◌≤◌, ◌<◌, min, Bool, true, cond, not, ◌&&◌, List, [], ◌++◌, ◌≡◌, ltb, eqb, take, drop, set, replicate, Float, Option, Some, None, is_some}
 use Rattle.std.specs.Float.Ieee.{eq, ne}
 use Rattle.floats.specs.Lists.{swap_at}
 use Rattle.floats.specs.Magnitude.{magnitude_of}
-use Rattle.floats.specs.Ops.{◌⊕◌, ◌⊖◌, ◌⊗◌, ◌⊘◌, zero⁺, zero⁻, one, two}
+use Rattle.floats.specs.Ops.{◌⊕◌, ◌⊗◌, ◌⊘◌, zero⁺, zero⁻, one, two}
 use Rattle.loops.specs.Turns.{up_to, down_to, while_to}
 use Rattle.root.specs.Root.{sqrt_of}
 use Rattle.solver.specs.Steps.{at, less_past}
 use Rattle.solver.specs.Sums.{norm2_of}
 use Rattle.nullspace.specs.Steps.{row_at, unit_at, reflect_of, ended, away}
 use Rattle.nullspace.specs.declared.qr.Column.{Column}
-use Rattle.nullspace.specs.declared.qr.Step.{Step}
 
 -- the scaled rows one after another
 unfoldable pub add_unit : ℕ → List Float → ℕ → List Float → List Float
@@ -25,9 +24,6 @@ unit_rows rows n m = up_to rows 0 (add_unit n m) []
 -- `reflect` by index, on lists of their own
 unfoldable pub add_product : List Float → List Float → ℕ → Float → Float
 add_product v c i s = s ⊕ at v i ⊗ at c i
-
-unfoldable pub less_by : List Float → Float → ℕ → List Float → List Float
-less_by v f i c = set c i (at c i ⊖ f ⊗ at v i)
 
 -- and where v is the first row of the list, and c the row j
 unfoldable pub add_product_at : ℕ → ℕ → List Float → ℕ → Float → Float
@@ -121,10 +117,9 @@ pub record Measured (n m k : ℕ) (t : List Float) (p : Column) : Type 0 where
   pub norm : p.norm ≡ norm_at n k t p.row
 
 -- a turn over k on the list t, which leaves t'
-pub record Turned (n m k : ℕ) (first : Float) (t t' : List Float) (r : Step) : Type 0 where
-  pub on : r.on ≡ turns-on n m k first t
-  pub next : r.first ≡ first_norm_of n m k first t
-  pub left : r.on ≡ true → t' ≡ turned n m k t
+pub record Turned (n m k : ℕ) (first : Float) (t t' : List Float) (r : Option Float) : Type 0 where
+  pub next : r ≡ cond (turns-on n m k first t) (Some (first_norm_of n m k first t)) None
+  pub left : is_some r ≡ true → t' ≡ turned n m k t
 
 -- the rank, of which no more than rows or columns come out, and the reflectors in the first rows of w'
 pub record Decomposes (rows n : ℕ) (w w' : List Float) (r : ℕ) : Type 0 where

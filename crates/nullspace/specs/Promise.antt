@@ -1,11 +1,11 @@
 -- What a call of `null_space` answers and leaves in each lent place, for every input.
-use Rattle.std.specs.Prelude.{ℕ, ◌-◌, ◌*◌, cond, ◌≡◌, ltb, length, drop, replicate, Float}
+use Rattle.std.specs.Prelude.{ℕ, ◌-◌, ◌*◌, cond, ◌≡◌, ltb, length, drop, replicate, Float, Result, Ok, Err}
 use mathlib.Core.List.{List, ◌++◌, flatten}
 use Rattle.floats.specs.Only.{only-answer}
 use Rattle.floats.specs.Ops.{zero⁺}
 use Rattle.loops.specs.Numbers.{Meaning, refused, values, too_many, too_short}
-use Rattle.nullspace.specs.declared.NullSpace.{NullSpace}
-use Rattle.nullspace.specs.declared.NullSpace.TheVariants.{Rank, TooMany, TooShort}
+use Rattle.slices.specs.declared.Refusal.{Refusal}
+use Rattle.slices.specs.declared.Refusal.TheVariants.{TooMany, TooShort}
 use Rattle.nullspace.specs.Steps.{Qr, collect, row_at, cols_of, decomposed, reflectors_of, rank_of, basis_of}
 
 -- what a call that is carried out finds: the rank, and the basis vectors
@@ -13,11 +13,15 @@ pub record Found : Type 0 where
   pub rank : ℕ
   pub basis : List (List Float)
 
--- what each case of the answer says in document 01's terms, with the output as it is afterwards
-abbrev pub meaning_of : ℕ → List Float → NullSpace → Meaning Found
-meaning_of n out' (Rank r) = values (record { rank = r; basis = collect 0 (n - r) (λ i. row_at n i out') })
-meaning_of n out' TooMany = refused too_many
-meaning_of n out' TooShort = refused too_short
+-- what a call answers: the rank, or why it was not carried out
+abbrev pub Answered : Type 0
+Answered = Result ℕ Refusal
+
+-- what each case of it says in document 01's terms, with the output as it is afterwards
+abbrev pub meaning_of : ℕ → List Float → Answered → Meaning Found
+meaning_of n out' (Ok r) = values (record { rank = r; basis = collect 0 (n - r) (λ i. row_at n i out') })
+meaning_of n out' (Err TooMany) = refused too_many
+meaning_of n out' (Err TooShort) = refused too_short
 
 -- document 01's table for a call on a bare matrix: 3, then 9, and otherwise the call is carried out
 module _ {A : Type 0} (rows n : ℕ) (m w out : List Float) where
@@ -38,8 +42,8 @@ abbrev pub vectors_of : ℕ → ℕ → List Float → List Float
 vectors_of rows n m = flatten (found_in rows n m).basis
 
 module _ (rows n : ℕ) (m w out : List Float) where
-  abbrev pub answer_of : NullSpace
-  answer_of = checked rows n m w out TooMany TooShort (Rank (rank_of (decomposed_of rows n m)))
+  abbrev pub answer_of : Answered
+  answer_of = checked rows n m w out (Err TooMany) (Err TooShort) (Ok (rank_of (decomposed_of rows n m)))
 
   abbrev pub work_after : List Float
   work_after = checked rows n m w out w w (replicate (rows * n) zero⁺ ++ drop (rows * n) w)
@@ -47,13 +51,13 @@ module _ (rows n : ℕ) (m w out : List Float) where
   abbrev pub output_after : List Float
   output_after = checked rows n m w out out out (vectors_of rows n m ++ drop ((n - rank_of (decomposed_of rows n m)) * n) out)
 
-pub record Spans (rows n : ℕ) (m w out w' out' : List Float) (r : NullSpace) : Type 0 where
+pub record Spans (rows n : ℕ) (m w out w' out' : List Float) (r : Answered) : Type 0 where
   pub answer : r ≡ answer_of rows n m w out
   pub meaning : meaning_of n out' r ≡ checked rows n m w out (refused too_many) (refused too_short) (values (found_in rows n m))
   pub work : w' ≡ work_after rows n m w out
   pub output : out' ≡ output_after rows n m w out
 
 -- no second answer, and no other content of a lent place, meets the promise
-pub only_one : {rows n : ℕ} {m w out w₁ out₁ w₂ out₂ : List Float} {r₁ r₂ : NullSpace} → Spans rows n m w out w₁ out₁ r₁ → Spans rows n m w out w₂ out₂ r₂
+pub only_one : {rows n : ℕ} {m w out w₁ out₁ w₂ out₂ : List Float} {r₁ r₂ : Answered} → Spans rows n m w out w₁ out₁ r₁ → Spans rows n m w out w₂ out₂ r₂
     → (r₁ ≡ r₂) × (w₁ ≡ w₂) × (out₁ ≡ out₂)
 only_one p q = (only-answer p.answer q.answer, only-answer p.work q.work, only-answer p.output q.output)

@@ -9,7 +9,7 @@ fn unit(e: &mut [f64], j: usize)
     requires { j < length e.old }
     ensures { e.new ≡ set (replicate (length e.old) zero⁺) j one }
 {
-    floats::clear(e);
+    e.fill(0.0);
     e[j] = 1.0;
 }
 
@@ -23,14 +23,13 @@ fn row_start(r: usize, n: usize, len: usize) -> usize
     if s <= len - n { s } else { 0 }
 }
 
+#[tactic(auto, using(loops::proofs::Cells::cells))]
 fn reflected(e: &mut [f64], n: usize, v: &[f64], rank: usize, j: usize)
     requires { ((length e.old ≡ n) × (j < n)) × (rank * n ≤ length v.now) }
     ensures { e.new ≡ laid_vector n rank v.now j }
 {
     unit(e, j);
-    let mut r = rank;
-    while 0 < r {
-        r = r - 1;
+    for r in (0..rank).rev() {
         let start = row_start(r, n, v.len());
         let end = start + n;
         reflect::reflect(&v[start..end], n, e);
@@ -47,6 +46,7 @@ fn vector(e: &mut [f64], n: usize, v: &[f64], rank: usize, j: usize)
 }
 
 // The vectors one after another at the head of `out`.
+#[tactic(auto, using(loops::proofs::Cells::cells))]
 pub(crate) fn vectors(out: &mut [f64], v: &[f64], n: usize, rank: usize)
     requires { ((rank ≤ n) × (n * n ≤ length out.old)) × (rank * n ≤ length v.now) }
     ensures { out.new ≡ laid_basis n rank v.now ++ drop ((n - rank) * n) out.old }

@@ -1,13 +1,10 @@
 // The loop over k: the longest column, its reflector, and the columns after it reflected.
-ghost use Rattle.std.specs.Prelude.{cond, ◌≡◌, ◌+◌, ◌*◌, ◌≤◌, ◌<◌, eqb, length};
-ghost use Rattle.std.specs.Float.Ieee.{neg, le};
-ghost use Rattle.floats.specs.Ops.{zero⁺};
+ghost use Rattle.std.specs.Prelude.{◌≡◌, ◌+◌, ◌*◌, ◌≤◌, ◌<◌, length};
 ghost use Rattle.loops.specs.Turns.{up_to};
 ghost use Rattle.nullspace.specs.Steps.{away, ended};
 ghost use Rattle.nullspace.specs.Layout.{Decomposes, Measured, Turned, longer_row, longest_of, norm_at, reflector_at, swap_head};
 
 use crate::reflect;
-use loops::smaller;
 
 // A column and its remaining norm.
 #[derive(Clone, Copy)]
@@ -17,6 +14,7 @@ struct Column {
 }
 
 // What is left of column `j` from `k` on.
+#[tactic(auto, using(loops::proofs::Cells::cells))]
 fn norm_from(t: &[f64], n: usize, k: usize, j: usize) -> f64
     requires { (k < n) × (j * n + n ≤ length t.now) }
     ensures { result ≡ norm_at n k t.now j }
@@ -53,16 +51,14 @@ fn longest(t: &[f64], n: usize, m: usize, k: usize) -> Column
     best
 }
 
+#[tactic(auto, unfolding(crate::specs::Steps::ended))]
 fn is_ended(first: f64, norm: f64) -> bool
     ensures { result ≡ ended first norm }
 {
-    if norm <= first * 1e-10 {
-        true
-    } else {
-        norm == 0.0
-    }
+    norm <= first * 1e-10 || norm == 0.0
 }
 
+#[tactic(auto, using(loops::proofs::Cells::cells))]
 fn swap_head(t: &mut [f64], n: usize, p: usize)
     requires { p * n + n ≤ length t.old }
     ensures { t.new ≡ up_to n 0 (swap_head n p) t.old }
@@ -72,85 +68,59 @@ fn swap_head(t: &mut [f64], n: usize, p: usize)
     }
 }
 
+#[tactic(auto, unfolding(crate::specs::Steps::away))]
 fn push_away(t: &mut [f64], k: usize, norm: f64)
     requires { k < length t.old }
     ensures { t.new ≡ away k norm t.old }
 {
-    let x = t[k];
-    t[k] = x - signed(x, norm);
-}
-
-fn signed(x: f64, norm: f64) -> f64
-    ensures { result ≡ cond (le zero⁺ x) (neg norm) norm }
-{
-    if x >= 0.0 { -norm } else { norm }
+    t[k] -= if t[k] >= 0.0 { -norm } else { norm };
 }
 
 // Makes a reflector of the column `row`, and puts it first.
+#[tactic(auto, using(loops::proofs::Cells::cells))]
 fn make_reflector(t: &mut [f64], n: usize, k: usize, row: usize, norm: f64)
     requires { (k < n) × (row * n + n ≤ length t.old) }
     ensures { t.new ≡ reflector_at n k row norm t.old }
 {
     swap_head(t, n, row);
-    floats::clear(&mut t[..k]);
+    t[..k].fill(0.0);
     push_away(t, k, norm);
 }
 
-// Whether a turn goes on, and what the first norm is then.
-#[derive(Clone, Copy)]
-struct Step {
-    on: bool,
-    first: f64,
-}
-
-fn first_norm(k: usize, norm: f64, first: f64) -> f64
-    ensures { result ≡ cond (eqb k 0) norm first }
-{
-    if k == 0 { norm } else { first }
-}
-
-// The turn of k, on the `m` columns from k on. Where it does not go on, nothing is said of what it leaves.
-fn turn(t: &mut [f64], n: usize, m: usize, k: usize, first: f64) -> Step
+// The turn of k, on the `m` columns from k on: the first norm of all, where it goes on. Where it does not, nothing is said of what it
+// leaves.
+#[tactic(auto, using(loops::proofs::Cells::cells))]
+fn turn(t: &mut [f64], n: usize, m: usize, k: usize, first: f64) -> Option<f64>
     requires { ((k < n) × (0 < m)) × (m * n ≤ length t.old) }
     ensures { Turned n m k first t.old t.new result }
 {
     let best = longest(t, n, m, k);
-    let next = first_norm(k, best.norm, first);
     if is_ended(first, best.norm) {
-        return Step {
-            on: false,
-            first: next,
-        };
+        return None;
     }
     make_reflector(t, n, k, best.row, best.norm);
     let vv = solver::norm2(&t[..n]);
     if vv == 0.0 {
-        return Step {
-            on: false,
-            first: next,
-        };
+        return None;
     }
     reflect::reflect_rows(t, n, m, vv);
-    Step {
-        on: true,
-        first: next,
-    }
+    Some(if k == 0 { best.norm } else { first })
 }
 
 // Makes reflectors of the columns, as many as the rank, and answers the rank.
+#[tactic(auto, using(loops::proofs::Cells::cells))]
 pub(crate) fn decompose(w: &mut [f64], rows: usize, n: usize) -> usize
     requires { rows * n ≤ length w.old }
     ensures { Decomposes rows n w.old w.new result }
 {
-    let last = smaller(n, rows);
+    let last = n.min(rows);
     let mut first = 0.0;
     for k in 0..last {
         let start = k * n;
-        let t = turn(&mut w[start..], n, rows - k, k, first);
-        if !t.on {
-            return k;
+        match turn(&mut w[start..], n, rows - k, k, first) {
+            Some(norm) => first = norm,
+            None => return k,
         }
-        first = t.first;
     }
     last
 }

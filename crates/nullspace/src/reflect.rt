@@ -1,46 +1,30 @@
 // `reflect`: on a row of the list whose first row is the reflector, and on a vector of its own.
-ghost use Rattle.std.specs.Prelude.{◌≡◌, ◌+◌, ◌*◌, ◌≤◌, length};
-ghost use Rattle.loops.specs.Turns.{up_to};
-ghost use Rattle.solver.specs.Steps.{less_past};
+ghost use Rattle.std.specs.Prelude.{◌≡◌, ◌+◌, ◌*◌, ◌≤◌, ◌<◌, length};
 ghost use Rattle.solver.specs.Sums.{norm2_of};
-ghost use Rattle.nullspace.specs.Steps.{dot_of, less_all, reflect_of};
-ghost use Rattle.nullspace.specs.Layout.{less_by, dot_at, less_row_at, reflect_at, reflected_by};
+ghost use Rattle.nullspace.specs.Steps.{dot_of, reflect_of};
+ghost use Rattle.nullspace.specs.Layout.{dot_at, reflect_at, reflected_by};
 
+#[tactic(auto, using(loops::proofs::Cells::cells))]
 fn dot_row(t: &[f64], n: usize, j: usize) -> f64
     requires { j * n + n ≤ length t.now }
     ensures { result ≡ dot_at n j t.now }
 {
     let mut s = -0.0;
     for i in 0..n {
-        s = s + t[i] * t[j * n + i];
+        s += t[i] * t[j * n + i];
     }
     s
 }
 
-fn less_past(t: &mut [f64], n: usize, off: usize, f: f64)
-    requires { off + n ≤ length t.old }
-    ensures { t.new ≡ up_to n 0 (less_past off f) t.old }
-{
-    for i in 0..n {
-        t[off + i] = t[off + i] - f * t[i];
-    }
-}
-
-fn less_row(t: &mut [f64], n: usize, j: usize, f: f64)
-    requires { j * n + n ≤ length t.old }
-    ensures { t.new ≡ less_row_at n j f t.old }
-{
-    if f != 0.0 {
-        less_past(t, n, j * n, f);
-    }
-}
-
 fn reflect_row(t: &mut [f64], n: usize, vv: f64, j: usize)
-    requires { j * n + n ≤ length t.old }
+    requires { (0 < j) × (j * n + n ≤ length t.old) }
     ensures { t.new ≡ reflect_at n vv j t.old }
 {
     let f = 2.0 * dot_row(t, n, j) / vv;
-    less_row(t, n, j, f);
+    if f != 0.0 {
+        let (above, row) = t.split_at_mut(j * n);
+        solver::row_update(&mut row[..n], f, &above[..n]);
+    }
 }
 
 // Each of the `m` rows but the first, which is the reflector.
@@ -67,28 +51,10 @@ fn products(v: &[f64], n: usize, c: &[f64]) -> Sums
     let mut dot = -0.0;
     let mut norm = -0.0;
     for i in 0..n {
-        dot = dot + v[i] * c[i];
-        norm = norm + v[i] * v[i];
+        dot += v[i] * c[i];
+        norm += v[i] * v[i];
     }
     Sums { dot, norm }
-}
-
-fn less_by(v: &[f64], n: usize, f: f64, c: &mut [f64])
-    requires { (length v.now ≡ n) × (length c.old ≡ n) }
-    ensures { c.new ≡ up_to n 0 (less_by v.now f) c.old }
-{
-    for i in 0..n {
-        c[i] = c[i] - f * v[i];
-    }
-}
-
-fn less_all(v: &[f64], n: usize, f: f64, c: &mut [f64])
-    requires { (length v.now ≡ n) × (length c.old ≡ n) }
-    ensures { c.new ≡ less_all v.now f c.old }
-{
-    if f != 0.0 {
-        less_by(v, n, f, c);
-    }
 }
 
 pub(crate) fn reflect(v: &[f64], n: usize, c: &mut [f64])
@@ -96,5 +62,8 @@ pub(crate) fn reflect(v: &[f64], n: usize, c: &mut [f64])
     ensures { c.new ≡ reflect_of v.now (norm2_of v.now) c.old }
 {
     let p = products(v, n, c);
-    less_all(v, n, 2.0 * p.dot / p.norm, c);
+    let f = 2.0 * p.dot / p.norm;
+    if f != 0.0 {
+        solver::row_update(c, f, v);
+    }
 }

@@ -1,46 +1,34 @@
 // The rows of the matrix, each scaled to unit length.
 ghost use Rattle.std.specs.Prelude.{map, ◌≡◌, ◌*◌, ◌≤◌, length};
 ghost use Rattle.floats.specs.Ops.{◌⊘◌};
-ghost use Rattle.nullspace.specs.Steps.{scaled_by, unit_of};
+ghost use Rattle.nullspace.specs.Steps.{unit_of};
 ghost use Rattle.nullspace.specs.Layout.{unit_rows};
 
 fn divide(row: &[f64], len: f64, to: &mut [f64])
     requires { length to.old ≡ length row.now }
     ensures { to.new ≡ map (λ v. v ⊘ len) row.now }
 {
+    // By index: what iter_mut writes no proof knows afterwards.
     for i in 0..row.len() {
         to[i] = row[i] / len;
     }
 }
 
-fn copy(row: &[f64], to: &mut [f64])
-    requires { length to.old ≡ length row.now }
-    ensures { to.new ≡ row.now }
-{
-    for i in 0..row.len() {
-        to[i] = row[i];
-    }
-}
-
 // Only a length above zero divides.
-fn scale(row: &[f64], len: f64, to: &mut [f64])
-    requires { length to.old ≡ length row.now }
-    ensures { to.new ≡ scaled_by len row.now }
-{
-    if len > 0.0 {
-        divide(row, len, to);
-    } else {
-        copy(row, to);
-    }
-}
-
+#[tactic(auto, unfolding(crate::specs::Steps::unit_of, crate::specs::Steps::scaled_by))]
 fn unit_row(row: &[f64], to: &mut [f64])
     requires { length to.old ≡ length row.now }
     ensures { to.new ≡ unit_of row.now }
 {
-    scale(row, root::sqrt(solver::norm2(row)), to);
+    let len = root::sqrt(solver::norm2(row));
+    if len > 0.0 {
+        divide(row, len, to);
+    } else {
+        to.copy_from_slice(row);
+    }
 }
 
+#[tactic(auto, using(loops::proofs::Cells::cells))]
 pub(crate) fn unit_rows(m: &[f64], rows: usize, n: usize, w: &mut [f64])
     requires { (rows * n ≤ length m.now) × (length w.old ≡ rows * n) }
     ensures { w.new ≡ unit_rows rows n m.now }

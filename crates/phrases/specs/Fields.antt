@@ -1,99 +1,83 @@
 -- The fields of equations and measures, each with the comma in front of it (the byte 44).
-use Rattle.std.specs.Prelude.{cond, List, [], ◌∷◌, ℕ}
+use Rattle.std.specs.Prelude.{List, [], ◌∷◌, ℕ, Float, Option, Some, option_map}
 use Rattle.std.specs.Float.Ieee.{neg}
 use Rattle.floats.specs.Ops.{one}
-use Rattle.sketch.specs.Made.{point_no, numbered, valued, round, touching, five}
+use Rattle.plane.specs.declared.Vec2.{Vec2}
+use Rattle.sketch.specs.Kinds.{Sort}
+use Rattle.sketch.specs.Made.{point_no, line_no, Stands, Row}
 use Rattle.sketch.specs.declared.Contact.{Contact}
-use Rattle.sketch.specs.declared.Operand.{Operand}
+use Rattle.sketch.specs.declared.LineNo.{LineNo}
+use Rattle.sketch.specs.declared.PointNo.{PointNo}
 use Rattle.sketch.specs.declared.Rad.{Rad}
-use Rattle.sketch.specs.declared.Sort.{Sort}
 use Rattle.spelling.specs.Floating.{float_at}
 use Rattle.spelling.specs.Letters.{ascii}
-use Rattle.spelling.specs.Places.{eat_of}
+use Rattle.spelling.specs.Places.{Read, ◌>>=◌, if_some, eat_of, word_of}
 use Rattle.spelling.specs.Wholes.{whole_at}
-use Rattle.spelling.specs.declared.Cursor.{Cursor}
-use Rattle.spelling.specs.declared.FloatRead.{FloatRead}
-use Rattle.spelling.specs.declared.WholeRead.{WholeRead}
-use Rattle.phrases.specs.Kinds.{word_at}
-use Rattle.phrases.specs.declared.FieldsRead.{FieldsRead}
-use Rattle.phrases.specs.declared.OperandRead.{OperandRead}
-use Rattle.phrases.specs.declared.Sorts.{Sorts}
-use Rattle.phrases.specs.declared.VecRead.{VecRead}
+
+-- what was read at a place that was moved on, with that place
+abbrev pub with_place : {A : Type 0} → Option A → ℕ → Read A
+with_place o next = option_map (λ a. (a, next)) o
 
 -- a point's or a line's number
-unfoldable pub number_at : List ℕ → Cursor → WholeRead
-number_at s c = whole_at s (eat_of s c 44)
+unfoldable pub number_at : List ℕ → ℕ → Read ℕ
+number_at s at = do
+  n ← eat_of s at 44
+  whole_at s n
 
-unfoldable pub value_at : List ℕ → Cursor → FloatRead
-value_at s c = float_at s (eat_of s c 44)
+unfoldable pub point_at : List ℕ → ℕ → Read PointNo
+point_at s at = do
+  n ← number_at s at
+  Some (point_no n.0, n.1)
+
+unfoldable pub line_at : List ℕ → ℕ → Read LineNo
+line_at s at = do
+  n ← number_at s at
+  Some (line_no n.0, n.1)
+
+unfoldable pub value_at : List ℕ → ℕ → Read Float
+value_at s at = do
+  n ← eat_of s at 44
+  float_at s n
 
 -- x is 0 and y is 1
-unfoldable pub axis_at : List ℕ → Cursor → WholeRead
-axis_at s c =
-    let x = word_at s c (ascii ",x") in
-    cond x.ok (record { value = 0; next = x }) (record { value = 1; next = word_at s c (ascii ",y") })
+unfoldable pub axis_at : List ℕ → ℕ → Read ℕ
+axis_at s at = if_some (word_of s at (ascii ",x")) (λ n. Some (0, n)) (word_of s at (ascii ",y") >>= λ n. Some (1, n))
 
 -- + is 1.0 and - is -1.0
-unfoldable pub side_at : List ℕ → Cursor → FloatRead
-side_at s c =
-    let plus = word_at s c (ascii ",+") in
-    cond plus.ok (record { value = one; next = plus }) (record { value = neg one; next = word_at s c (ascii ",-") })
+unfoldable pub side_at : List ℕ → ℕ → Read Float
+side_at s at = if_some (word_of s at (ascii ",+")) (λ n. Some (one, n)) (word_of s at (ascii ",-") >>= λ n. Some (neg one, n))
 
 -- p and a point, or v and a float
-unfoldable pub rad_at : List ℕ → Cursor → OperandRead
-rad_at s c =
-    let by_point = word_at s c (ascii ",p") in
-    let p = number_at s by_point in
-    let v = value_at s (word_at s c (ascii ",v")) in
-    cond by_point.ok (record { read = round (Rad.Point (point_no p.value)); next = p.next }) (record { read = round (Rad.Value v.value); next = v.next })
+unfoldable pub rad_at : List ℕ → ℕ → Read Rad
+rad_at s at =
+    if_some (word_of s at (ascii ",p"))
+    (λ n. point_at s n >>= λ p. Some (Rad.Point p.0, p.1))
+    (word_of s at (ascii ",v") >>= λ n. value_at s n >>= λ v. Some (Rad.Value v.0, v.1))
 
 -- o is outside, a sign is inside
-unfoldable pub contact_at : List ℕ → Cursor → OperandRead
-contact_at s c =
-    let outside = word_at s c (ascii ",o") in
-    let sign = side_at s c in
-    cond outside.ok (record { read = touching Contact.Outside; next = outside }) (record { read = touching (Contact.Inside sign.value); next = sign.next })
+unfoldable pub contact_at : List ℕ → ℕ → Read Contact
+contact_at s at = if_some (word_of s at (ascii ",o")) (λ n. Some (Contact.Outside, n)) (side_at s at >>= λ k. Some (Contact.Inside k.0, k.1))
 
 -- two floats; in front of the first there is no comma
-unfoldable pub vec_at : List ℕ → Cursor → VecRead
-vec_at s c =
-    let x = float_at s c in
-    let y = value_at s x.next in
-    record { vec = record { x = x.value; y = y.value }; next = y.next }
+unfoldable pub vec_at : List ℕ → ℕ → Read Vec2
+vec_at s at = do
+  x ← float_at s at
+  y ← value_at s x.1
+  Some (record { x = x.0; y = y.0 }, y.1)
 
--- A field by its sort.
-abbrev pub by_number : WholeRead → OperandRead
-by_number n = record { read = numbered n.value; next = n.next }
+-- A field by its sort, and the fields of a row one after another.
+abbrev pub field_at : (f : Sort) → List ℕ → ℕ → Read (Stands f)
+field_at Sort.Point = point_at
+field_at Sort.Line = line_at
+field_at Sort.Value = value_at
+field_at Sort.Axis = axis_at
+field_at Sort.Side = side_at
+field_at Sort.Radius = rad_at
+field_at Sort.Contact = contact_at
 
-abbrev pub by_value : FloatRead → OperandRead
-by_value v = record { read = valued v.value; next = v.next }
-
-unfoldable pub operand_at : List ℕ → Sort → Cursor → OperandRead
-operand_at s Sort.Point c = by_number (number_at s c)
-operand_at s Sort.Line c = by_number (number_at s c)
-operand_at s Sort.Value c = by_value (value_at s c)
-operand_at s Sort.Axis c = by_number (axis_at s c)
-operand_at s Sort.Side c = by_value (side_at s c)
-operand_at s Sort.Radius c = rad_at s c
-operand_at s Sort.Contact c = contact_at s c
-
--- The fields one after another.
-abbrev pub operands_at : List ℕ → List Sort → Cursor → List Operand
-operands_at s [] c = []
-operands_at s (f ∷ l) c = let r = operand_at s f c in r.read ∷ operands_at s l r.next
-
-abbrev pub past_fields : List ℕ → List Sort → Cursor → Cursor
-past_fields s [] c = c
-past_fields s (f ∷ l) c = past_fields s l (operand_at s f c).next
-
-abbrev pub fields_at : List ℕ → List Sort → Cursor → FieldsRead
-fields_at s l c = record { operands = five (operands_at s l c); next = past_fields s l c }
-
--- a row of the code's table
-abbrev pub sorts_of : Sorts → List Sort
-sorts_of Sorts.None = []
-sorts_of (Sorts.One a) = a ∷ []
-sorts_of (Sorts.Two a b) = a ∷ b ∷ []
-sorts_of (Sorts.Three a b c) = a ∷ b ∷ c ∷ []
-sorts_of (Sorts.Four a b c d) = a ∷ b ∷ c ∷ d ∷ []
-sorts_of (Sorts.Five a b c d e) = a ∷ b ∷ c ∷ d ∷ e ∷ []
+abbrev pub row_at : (l : List Sort) → List ℕ → ℕ → Read (Row l)
+row_at [] s at = Some (tt, at)
+row_at (f ∷ l) s at = do
+  v ← field_at f s at
+  m ← row_at l s v.1
+  Some ((v.0, m.0), m.1)

@@ -1,16 +1,11 @@
 -- The kinds of equations by their names, the Rust's in small letters, in the order in which a reader tries them. "equalradius"
--- begins with "equal", so it is tried first.
-use Rattle.std.specs.Prelude.{cond, List, [], ◌∷◌, ℕ}
-use Rattle.loops.specs.Turns.{fold}
+-- begins with "equal", so it is tried first. A measure has the name of its kind.
+use Rattle.std.specs.Prelude.{List, [], ◌∷◌, ℕ}
+use Rattle.sketch.specs.Kinds.{kind_of}
+use Rattle.sketch.specs.declared.Gauge.{Gauge}
 use Rattle.sketch.specs.declared.Kind.{Kind}
 use Rattle.spelling.specs.Letters.{ascii}
-use Rattle.spelling.specs.Places.{eat_of}
-use Rattle.spelling.specs.declared.Cursor.{Cursor}
-use Rattle.phrases.specs.declared.KindRead.{KindRead}
-
--- past the word w
-abbrev pub word_at : List ℕ → Cursor → List ℕ → Cursor
-word_at s c w = fold (eat_of s) c w
+use Rattle.spelling.specs.Places.{Read, named}
 
 abbrev pub name_of : Kind → List ℕ
 name_of Kind.Coincident = ascii "coincident"
@@ -35,18 +30,19 @@ name_of Kind.Midpoint = ascii "midpoint"
 name_of Kind.ArcMidpoint = ascii "arcmidpoint"
 name_of Kind.Symmetric = ascii "symmetric"
 
--- what was found already, or else the kind with the name w
-unfoldable pub or_named : List ℕ → Cursor → KindRead → List ℕ → Kind → KindRead
-or_named s c found w kind = cond found.next.ok found (record { kind = kind; next = word_at s c w })
+abbrev pub kinds : List Kind
+kinds =
+    Kind.Coincident ∷ Kind.Level ∷ Kind.Parallel ∷ Kind.Perpendicular ∷ Kind.Collinear ∷ Kind.EqualRadius ∷ Kind.Equal ∷ Kind.Held ∷ Kind.Distance ∷ Kind.AxisDistance ∷ Kind.Length ∷ Kind.PointLine ∷ Kind.ArcEnds ∷ Kind.Radius ∷ Kind.LineCircle ∷ Kind.CircleCircle ∷ Kind.LineArcAt ∷ Kind.ArcArcAt ∷ Kind.Midpoint ∷ Kind.ArcMidpoint ∷ Kind.Symmetric ∷ []
 
--- every kind in turn
-unfoldable pub trying : List ℕ → Cursor → KindRead → List Kind → KindRead
-trying s c found [] = found
-trying s c found (k ∷ l) = trying s c (or_named s c found (name_of k) k) l
+-- the kind whose name stands there
+abbrev pub kind_at : List ℕ → ℕ → Read Kind
+kind_at s at = named name_of s at kinds
 
-abbrev pub other_kinds : List Kind
-other_kinds =
-    Kind.Level ∷ Kind.Parallel ∷ Kind.Perpendicular ∷ Kind.Collinear ∷ Kind.EqualRadius ∷ Kind.Equal ∷ Kind.Held ∷ Kind.Distance ∷ Kind.AxisDistance ∷ Kind.Length ∷ Kind.PointLine ∷ Kind.ArcEnds ∷ Kind.Radius ∷ Kind.LineCircle ∷ Kind.CircleCircle ∷ Kind.LineArcAt ∷ Kind.ArcArcAt ∷ Kind.Midpoint ∷ Kind.ArcMidpoint ∷ Kind.Symmetric ∷ []
+abbrev pub gauge_name : Gauge → List ℕ
+gauge_name g = name_of (kind_of g)
 
-abbrev pub kind_at : List ℕ → Cursor → KindRead
-kind_at s c = trying s c (record { kind = Kind.Coincident; next = word_at s c (name_of Kind.Coincident) }) other_kinds
+abbrev pub gauges : List Gauge
+gauges = Gauge.Distance ∷ Gauge.AxisDistance ∷ Gauge.Length ∷ Gauge.PointLine ∷ Gauge.Radius ∷ []
+
+abbrev pub gauge_at : List ℕ → ℕ → Read Gauge
+gauge_at s at = named gauge_name s at gauges

@@ -1,24 +1,27 @@
 -- Measures: the name of a kind that is measured, and then its fields without the value.
-use Rattle.std.specs.Prelude.{cond, List, ℕ}
-use Rattle.sketch.specs.Kinds.{kind_of, measured_fields}
+use Rattle.std.specs.Prelude.{List, ℕ, Some}
+use Rattle.sketch.specs.Kinds.{measured_fields}
 use Rattle.sketch.specs.Made.{measure_of}
 use Rattle.sketch.specs.declared.Gauge.{Gauge}
-use Rattle.spelling.specs.declared.Cursor.{Cursor}
-use Rattle.phrases.specs.Fields.{fields_at}
-use Rattle.phrases.specs.Kinds.{word_at, name_of}
-use Rattle.phrases.specs.declared.MeasureRead.{MeasureRead}
+use Rattle.sketch.specs.declared.Measure.{Measure}
+use Rattle.spelling.specs.Places.{Read, ◌>>=◌}
+use Rattle.phrases.specs.Fields.{row_at}
+use Rattle.phrases.specs.Kinds.{gauge_at}
 
-unfoldable pub gauged_at : List ℕ → Gauge → Cursor → MeasureRead
-gauged_at s g c = let f = fields_at s (measured_fields g) c in record { measure = measure_of g f.operands; next = f.next }
+-- the fields of a kind that is measured; gauge by gauge, so that a proof goes by what it is
+abbrev pub row_measure : Gauge → List ℕ → ℕ → Read Measure
+row_measure g s at = do
+  m ← row_at (measured_fields g) s at
+  Some (measure_of g m.0, m.1)
 
--- what the reader does where a name stands there
-unfoldable pub named : List ℕ → Cursor → Gauge → MeasureRead → MeasureRead
-named s c g other = let k = word_at s c (name_of (kind_of g)) in cond k.ok (gauged_at s g k) other
+unfoldable pub gauged_at : Gauge → List ℕ → ℕ → Read Measure
+gauged_at Gauge.Distance = row_measure Gauge.Distance
+gauged_at Gauge.AxisDistance = row_measure Gauge.AxisDistance
+gauged_at Gauge.Length = row_measure Gauge.Length
+gauged_at Gauge.PointLine = row_measure Gauge.PointLine
+gauged_at Gauge.Radius = row_measure Gauge.Radius
 
-unfoldable pub measure_at : List ℕ → Cursor → MeasureRead
-measure_at s c =
-    named s c Gauge.Distance
-    (named s c Gauge.AxisDistance
-    (named s c Gauge.Length
-    (named s c Gauge.PointLine
-    (gauged_at s Gauge.Radius (word_at s c (name_of (kind_of Gauge.Radius)))))))
+unfoldable pub measure_at : List ℕ → ℕ → Read Measure
+measure_at s at = do
+  g ← gauge_at s at
+  gauged_at g.0 s g.1

@@ -1,89 +1,102 @@
 // The fields of equations and measures, each with the comma in front of it.
 ghost use Rattle.std.specs.Prelude.{◌≡◌};
-ghost use Rattle.phrases.specs.Fields.{number_at, axis_at, value_at, side_at, rad_at, contact_at, vec_at};
+ghost use Rattle.phrases.specs.Fields.{with_place, number_at, point_at, line_at, value_at, axis_at, side_at, rad_at, contact_at, vec_at};
 
-use crate::operands::holding;
-use crate::{OperandRead, VecRead};
 use plane::Vec2;
-use spelling::{Cursor, FloatRead, WholeRead, eat, float, whole, word};
+use sketch::{Contact, LineNo, PointNo, Rad};
+use spelling::{eat, float, whole, word};
 
 // A point's or a line's number.
-pub fn number(s: &[u8], c: Cursor) -> WholeRead
-    ensures { result ≡ number_at s.now c }
+#[tactic(auto, unfolding(crate::specs::Fields::number_at))]
+pub fn number(s: &[u8], at: usize) -> Option<(usize, usize)>
+    ensures { result ≡ number_at s.now at }
 {
-    whole(s, eat(s, c, b','))
-}
-
-pub(crate) fn value(s: &[u8], c: Cursor) -> FloatRead
-    ensures { result ≡ value_at s.now c }
-{
-    float(s, eat(s, c, b','))
-}
-
-pub(crate) fn axis(s: &[u8], c: Cursor) -> WholeRead
-    ensures { result ≡ axis_at s.now c }
-{
-    let x = word(s, c, b",x");
-    if x.ok {
-        return WholeRead { value: 0, next: x };
-    }
-    WholeRead {
-        value: 1,
-        next: word(s, c, b",y"),
-    }
-}
-
-pub(crate) fn side(s: &[u8], c: Cursor) -> FloatRead
-    ensures { result ≡ side_at s.now c }
-{
-    let plus = word(s, c, b",+");
-    if plus.ok {
-        return FloatRead {
-            value: 1.0,
-            next: plus,
-        };
-    }
-    FloatRead {
-        value: -1.0,
-        next: word(s, c, b",-"),
-    }
-}
-
-pub(crate) fn rad(s: &[u8], c: Cursor) -> OperandRead
-    ensures { result ≡ rad_at s.now c }
-{
-    let by_point = word(s, c, b",p");
-    if by_point.ok {
-        let p = number(s, by_point);
-        return holding(p.value, 0.0, 1, p.next);
-    }
-    let v = value(s, word(s, c, b",v"));
-    holding(0, v.value, 0, v.next)
-}
-
-pub(crate) fn contact(s: &[u8], c: Cursor) -> OperandRead
-    ensures { result ≡ contact_at s.now c }
-{
-    let outside = word(s, c, b",o");
-    if outside.ok {
-        return holding(0, 0.0, 1, outside);
-    }
-    let sign = side(s, c);
-    holding(0, sign.value, 0, sign.next)
+    whole(s, eat(s, at, b',')?)
 }
 
 // Two floats; in front of the first there is no comma.
-pub fn vec(s: &[u8], c: Cursor) -> VecRead
-    ensures { result ≡ vec_at s.now c }
+#[tactic(auto, unfolding(crate::specs::Fields::vec_at, crate::specs::Fields::value_at))]
+pub fn vec(s: &[u8], at: usize) -> Option<(Vec2, usize)>
+    ensures { result ≡ vec_at s.now at }
 {
-    let x = float(s, c);
-    let y = value(s, x.next);
-    let next = y.next;
-    VecRead {
-        vec: Vec2 {
-            x: x.value,
-            y: y.value,
-        },
-        next,
+    let (x, at) = float(s, at)?;
+    let (y, at) = float(s, eat(s, at, b',')?)?;
+    Some((Vec2 { x, y }, at))
+}
+
+// What follows reads at a place that it moves on, so that the fields of a kind stand in its constructor.
+
+#[tactic(auto, unfolding(crate::specs::Fields::point_at))]
+pub(crate) fn point(s: &[u8], at: &mut usize) -> Option<PointNo>
+    ensures { with_place result at.new ≡ point_at s.now at.old }
+{
+    let (n, next) = number(s, *at)?;
+    *at = next;
+    Some(PointNo(n))
+}
+
+#[tactic(auto, unfolding(crate::specs::Fields::line_at))]
+pub(crate) fn line(s: &[u8], at: &mut usize) -> Option<LineNo>
+    ensures { with_place result at.new ≡ line_at s.now at.old }
+{
+    let (n, next) = number(s, *at)?;
+    *at = next;
+    Some(LineNo(n))
+}
+
+#[tactic(auto, unfolding(crate::specs::Fields::value_at))]
+pub(crate) fn value(s: &[u8], at: &mut usize) -> Option<f64>
+    ensures { with_place result at.new ≡ value_at s.now at.old }
+{
+    let (v, next) = float(s, eat(s, *at, b',')?)?;
+    *at = next;
+    Some(v)
+}
+
+#[tactic(auto, unfolding(crate::specs::Fields::axis_at))]
+pub(crate) fn axis(s: &[u8], at: &mut usize) -> Option<usize>
+    ensures { with_place result at.new ≡ axis_at s.now at.old }
+{
+    if let Some(next) = word(s, *at, b",x") {
+        *at = next;
+        return Some(0);
     }
+    *at = word(s, *at, b",y")?;
+    Some(1)
+}
+
+#[tactic(auto, unfolding(crate::specs::Fields::side_at))]
+pub(crate) fn side(s: &[u8], at: &mut usize) -> Option<f64>
+    ensures { with_place result at.new ≡ side_at s.now at.old }
+{
+    if let Some(next) = word(s, *at, b",+") {
+        *at = next;
+        return Some(1.0);
+    }
+    *at = word(s, *at, b",-")?;
+    Some(-1.0)
+}
+
+// A radius by a point, or a plain one.
+#[tactic(auto, unfolding(crate::specs::Fields::rad_at))]
+pub(crate) fn rad(s: &[u8], at: &mut usize) -> Option<Rad>
+    ensures { with_place result at.new ≡ rad_at s.now at.old }
+{
+    if let Some(next) = word(s, *at, b",p") {
+        *at = next;
+        return Some(Rad::Point(point(s, at)?));
+    }
+    *at = word(s, *at, b",v")?;
+    Some(Rad::Value(value(s, at)?))
+}
+
+#[tactic(auto, unfolding(crate::specs::Fields::contact_at))]
+pub(crate) fn contact(s: &[u8], at: &mut usize) -> Option<Contact>
+    ensures { with_place result at.new ≡ contact_at s.now at.old }
+{
+    if let Some(next) = word(s, *at, b",o") {
+        *at = next;
+        return Some(Contact::Outside);
+    }
+    Some(Contact::Inside(side(s, at)?))
 }

@@ -1,45 +1,35 @@
 // A measure: the name of a kind that is measured, and the fields of that kind without the value.
 ghost use Rattle.std.specs.Prelude.{◌≡◌};
+ghost use Rattle.phrases.specs.Fields.{with_place};
 ghost use Rattle.phrases.specs.Measures.{gauged_at, measure_at};
 
-use crate::MeasureRead;
-use crate::made::measure_of;
-use crate::operands::fields;
-use crate::table::of_gauge;
-use sketch::Gauge;
-use spelling::{Cursor, word};
+use crate::fields::{axis, line, point, side};
+use crate::names::gauge;
+use sketch::{Gauge, Measure};
 
-fn gauged(s: &[u8], g: Gauge, c: Cursor) -> MeasureRead
-    ensures { result ≡ gauged_at s.now g c }
+#[tactic(auto, unfolding(crate::specs::Measures::gauged_at))]
+fn gauged(gauge: Gauge, s: &[u8], at: &mut usize) -> Option<Measure>
+    ensures { with_place result at.new ≡ gauged_at gauge s.now at.old }
 {
-    let read = fields(s, of_gauge(g), c);
-    let operands = read.operands;
-    let next = read.next;
-    MeasureRead {
-        measure: measure_of(g, operands),
-        next,
+    match gauge {
+        Gauge::Distance => Some(Measure::Distance(point(s, at)?, point(s, at)?)),
+        Gauge::AxisDistance => Some(Measure::AxisDistance(
+            point(s, at)?,
+            point(s, at)?,
+            axis(s, at)?,
+            side(s, at)?,
+        )),
+        Gauge::Length => Some(Measure::Length(line(s, at)?)),
+        Gauge::PointLine => Some(Measure::PointLine(point(s, at)?, line(s, at)?, side(s, at)?)),
+        Gauge::Radius => Some(Measure::Radius(point(s, at)?, point(s, at)?)),
     }
 }
 
-// The names tried in turn; none begins with another.
-pub fn measure(s: &[u8], c: Cursor) -> MeasureRead
-    ensures { result ≡ measure_at s.now c }
+#[tactic(auto, unfolding(crate::specs::Measures::measure_at))]
+pub fn measure(s: &[u8], at: usize) -> Option<(Measure, usize)>
+    ensures { result ≡ measure_at s.now at }
 {
-    let named = word(s, c, b"distance");
-    if named.ok {
-        return gauged(s, Gauge::Distance, named);
-    }
-    let named = word(s, c, b"axisdistance");
-    if named.ok {
-        return gauged(s, Gauge::AxisDistance, named);
-    }
-    let named = word(s, c, b"length");
-    if named.ok {
-        return gauged(s, Gauge::Length, named);
-    }
-    let named = word(s, c, b"pointline");
-    if named.ok {
-        return gauged(s, Gauge::PointLine, named);
-    }
-    gauged(s, Gauge::Radius, word(s, c, b"radius"))
+    let (gauge, mut at) = gauge(s, at)?;
+    let measure = gauged(gauge, s, &mut at)?;
+    Some((measure, at))
 }

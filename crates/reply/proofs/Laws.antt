@@ -1,62 +1,70 @@
 -- What is laid one after another is laid as a whole, over plain values. Assumes nothing.
-use Prim.Native.Nat.{ℕ, zero, suc, ◌+◌, ◌-◌, ◌/◌, ◌%◌, ◌^◌, ◌≤◌, ◌<◌}
+use Prim.Native.Nat.{ℕ, zero, suc, ◌+◌, ◌-◌, ◌/◌, ◌%◌, ◌^◌, ◌≤◌, ◌<◌, min}
 use mathlib.Core.List.{List, [], ◌∷◌, ◌++◌}
-use mathlib.Core.Path.{◌≡◌, refl, sym, ◌∙◌}
-use native.Mathlib.Nat.{mod-eq_of_lt}
+use mathlib.Core.Path.{◌≡◌, refl, ap, ap₂}
 use native.Mathlib.Numerals.{add-one}
 use native.Mathlib.Omega.{arith}
+use lib.Ieee.{nan, binary64, of_bits}
+use lib.ListN.{length, get_or}
+use Rattle.std.proofs.lemmas.List.{get_or-take}
+use Rattle.answer.specs.Endings.{blank_group, groups_of}
+use Rattle.answer.specs.declared.Answer.{Answer}
+use Rattle.answer.specs.declared.GroupFit.{GroupFit}
 use Rattle.loops.specs.Turns.{fold}
 use Rattle.loops.proofs.Turning.{fold-append}
 use Rattle.spelling.proofs.Digits.{decimal-one, decimal-last, decimal-more, hexadecimal-last}
 use Rattle.spelling.specs.Printed.{decimal, hex_digit, hexadecimal}
-use Rattle.reply.specs.Laid.{LaidBytes, next_byte, laying}
-use Rattle.reply.specs.Reply.{rising}
+use Rattle.reply.specs.Laid.{next_byte, laying}
+use Rattle.reply.specs.declared.writer.Writer.{Writer}
+use Rattle.reply.specs.Lines.{group_line}
+use Rattle.reply.specs.Reply.{rising, group_lines}
 
-laying-one : (b : ℕ) (s : LaidBytes) → laying (b ∷ []) s ≡ next_byte s b
-laying-one b s = refl
+module _ (w : Writer) where
+  pub one_digit : (n : ℕ) → n < 10 → fold next_byte w (decimal 19 n) ≡ next_byte w (48 + n)
+  one_digit n h = rw (decimal-one 19 n h)
 
-module _ (s t u : LaidBytes) where
-  pub then : (p q : List ℕ) → t ≡ laying p s → u ≡ laying q t → u ≡ laying (p ++ q) s
-  then p q e f = f ∙ rw e (sym (fold-append next_byte s p q))
+  -- in front of a usize's last digit there are at most nineteen, so that twenty may be allowed there too
+  pub more_digits : (n : ℕ) → 10 ≤ n → n < 2 ^ 64 → fold next_byte w (decimal 19 n) ≡ next_byte (fold next_byte w (decimal 19 (n / 10))) (48 + n % 10)
+  more_digits n h r =
+      rw (decimal-last 18 n h, decimal-more 18 19 (n / 10) (omega arith) (omega arith)) (fold-append next_byte w (decimal 18 (n / 10)) ((48 + n % 10) ∷ []))
 
-  pub last : (p : List ℕ) (b : ℕ) → t ≡ laying p s → u ≡ next_byte t b → u ≡ laying (p ++ b ∷ []) s
-  last p b e f = then p (b ∷ []) e (f ∙ sym (laying-one b t))
+  pub no_hex : (k n : ℕ) → k ≤ 0 → fold next_byte w (hexadecimal k n) ≡ w
+  unfolding hexadecimal
+  no_hex k n h = let e : k ≡ 0 = omega arith in rw e
 
--- ---- digits
-
-pub one-digit : (s u : LaidBytes) (n b : ℕ) → n < 10 → b ≡ 48 + n % 10 → u ≡ next_byte s b → u ≡ laying (decimal 19 n) s
-one-digit s u n b h e f = rw (decimal-one 19 n h, laying-one, ← mod-eq_of_lt h, ← e) f
-
--- in front of a usize's last digit there are at most nineteen, so that twenty may be allowed there too
-pub more-digits : (s t u : LaidBytes) (n b : ℕ) → 10 ≤ n → n < 2 ^ 64 → t ≡ laying (decimal 19 (n / 10)) s → b ≡ 48 + n % 10 → u ≡ next_byte t b
-    → u ≡ laying (decimal 19 n) s
-more-digits s t u n b h r g e f =
-    rw (decimal-last 18 n h, ← e) (last s t u (decimal 18 (n / 10)) b (rw (decimal-more 18 19 (n / 10) (omega arith) (omega arith)) at g) f)
-
-pub no-hex : (s : LaidBytes) (k n : ℕ) → k ≡ 0 → s ≡ laying (hexadecimal k n) s
-unfolding hexadecimal
-no-hex s k n e = rw e
-
-pub more-hex : (s t u : LaidBytes) (n b k : ℕ) → (k ≡ 0 → ⊥) → t ≡ laying (hexadecimal (k - 1) (n / 16)) s → b ≡ hex_digit (n % 16) → u ≡ next_byte t b
-    → u ≡ laying (hexadecimal k n) s
-more-hex s t u n b zero z g e f = absurd (z refl)
-more-hex s t u n b (suc k) z g e f =
-    let p : suc k - 1 ≡ k = omega arith in
-    rw (hexadecimal-last k n, ← e) (last s t u (hexadecimal k (n / 16)) b (rw p at g) f)
+  pub more_hex : (k n : ℕ) → 0 < k → fold next_byte w (hexadecimal k n) ≡ next_byte (fold next_byte w (hexadecimal (k - 1) (n / 16))) (hex_digit (n % 16))
+  more_hex zero n h = absurd (omega arith)
+  more_hex (suc k) n h =
+      let p : suc k - 1 ≡ k = omega arith in
+      rw (hexadecimal-last k n, p) (fold-append next_byte w (hexadecimal k (n / 16)) (hex_digit (n % 16) ∷ []))
 
 -- ---- lines of one sort after another
 
-module _ (f : ℕ → List ℕ) where
-  pub rising-start : (s : LaidBytes) → s ≡ laying (rising f 0) s
-  unfolding rising
-  rising-start s = refl
+pub rising_none : (f : ℕ → List ℕ) → rising f 0 ≡ []
+unfolding rising
+rising_none f = refl
 
-  rising-more : (i : ℕ) → rising f (i + 1) ≡ rising f i ++ f i
-  unfolding rising
-  rising-more i = rw add-one
+pub rising_next : (f : ℕ → List ℕ) (i : ℕ) (w : Writer) → fold next_byte w (rising f (i + 1)) ≡ fold next_byte (fold next_byte w (rising f i)) (f i)
+unfolding rising
+rising_next f i w = rw (add-one, fold-append)
 
-  pub rising-next : (s t u : LaidBytes) (i : ℕ) → t ≡ laying (rising f i) s → u ≡ laying (f i) t → u ≡ laying (rising f (i + 1)) s
-  rising-next s t u i e g = rw (rising-more i) (then s t u (rising f i) (f i) e g)
+rising-alike : (f g : ℕ → List ℕ) (n : ℕ) → ((i : ℕ) → i < n → f i ≡ g i) → rising f n ≡ rising g n
+unfolding rising
+rising-alike f g zero e = refl
+rising-alike f g (suc n) e = ap₂ ◌++◌ (rising-alike f g n (λ i h. e i (omega arith))) (e n (omega arith))
 
-  pub rising-done : (s t : LaidBytes) (i n : ℕ) → i ≤ n → n ≤ i → t ≡ laying (rising f i) s → t ≡ laying (rising f n) s
-  rising-done s t i n h k e = let p : i ≡ n = omega arith in rw p at e
+-- the groups that count, one after another
+pub groups-laid : (a : Answer) (items : List GroupFit) (n : ℕ) (w u : Writer) → items ≡ groups_of a → length items ≡ min a.group_count 40
+    → n ≤ length items → length items ≤ n → u ≡ laying (rising (λ i. group_line (get_or items i blank_group)) n) w → u ≡ laying (group_lines a) w
+unfolding group_lines
+groups-laid a items n w u e l h k q =
+    let m : n ≡ min a.group_count 40 = omega arith in
+    let each : rising (λ i. group_line (get_or items i blank_group)) n ≡ rising (λ i. group_line (get_or a.groups i blank_group)) n =
+    rw e (rising-alike _ _ n (λ i j. ap group_line (get_or-take a.group_count a.groups i blank_group (omega arith)))) in
+    rw (← m) (rw each at q)
+
+-- ---- the constant of NaN
+
+pub nan_is : of_bits binary64 0x7ff8_0000_0000_0000 ≡ nan
+unfolding of_bits
+nan_is = refl

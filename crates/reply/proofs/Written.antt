@@ -1,58 +1,64 @@
 -- What laying all the bytes from the start comes to. Assumes nothing.
-use Prim.Native.Nat.{ℕ, suc, ◌+◌, ◌≤◌, ◌<◌}
+use Prim.Native.Nat.{ℕ, ◌+◌, ◌≤◌, ◌<◌}
+use mathlib.Core.Bool.{Bool, true, false, cond}
 use mathlib.Core.List.{List, [], ◌∷◌, ◌++◌, append-nil, append_assoc}
-use mathlib.Core.Path.{◌≡◌, refl, sym, ◌∙◌}
+use mathlib.Core.Path.{◌≡◌, refl, sym, ap, ◌∙◌}
 use native.Mathlib.Nat.{add-zero, not-suc-le-zero, le_of_suc-le-suc}
-use borrow.Author.Tests.{lt-ltb, le-leb, lt-leb}
-use lib.ListN.{length, length-append, set, drop, take}
 use native.Mathlib.Omega.{arith}
+use borrow.Author.Tests.{lt-ltb, le-leb, lt-leb}
+use lib.Dec.{ltb}
+use lib.ListN.{length, length-append, set, drop, take}
 use lib.Seq.{take_at}
-use Rattle.loops.proofs.Parts.{set_past}
 use Rattle.loops.specs.Turns.{fold}
-use Rattle.reply.specs.Laid.{laid, next_byte, laying}
+use Rattle.loops.proofs.Parts.{set_past}
+use Rattle.reply.specs.Laid.{next_byte, laying}
 use Rattle.reply.specs.Promise.{written_of}
+use Rattle.reply.specs.declared.writer.Writer.{Writer}
 
-one-more : (n b : ℕ) (s : List ℕ) → n < 8192 → next_byte (laid n s) b ≡ laid (n + 1) (set s n b)
+-- with room in the count
+abbrev after : Writer → ℕ → Writer
+after w b = record w { reply = record w.reply { now = set w.reply.now w.at b }; at = w.at + 1 }
+
+after-is : (b : ℕ) (w : Writer) → w.at < 8192 → next_byte w b ≡ after w b
 unfolding next_byte
-one-more n b s h = rw (lt-ltb n 8192 h)
+after-is b w h = rw (lt-ltb w.at 8192 h)
 
-first-laid : (b : ℕ) (bs : List ℕ) (n : ℕ) (s : List ℕ) → n < 8192 → laying (b ∷ bs) (laid n s) ≡ laying bs (laid (n + 1) (set s n b))
-first-laid b bs n s h = rw (one-more n b s h)
+-- the writer keeps its slice
+one-name : (b : ℕ) (w : Writer) → (next_byte w b).reply.ghost_name ≡ w.reply.ghost_name
+unfolding next_byte
+one-name b w = by (ltb w.at 8192)
+  where
+    by : (t : Bool) → (cond t (after w b) w).reply.ghost_name ≡ w.reply.ghost_name
+    by true = refl
+    by false = refl
 
-nothing-laid : (n : ℕ) (s : List ℕ) → laying [] (laid n s) ≡ laid n s
-nothing-laid n s = refl
+pub same_name : (bs : List ℕ) (w : Writer) → (fold next_byte w bs).reply.ghost_name ≡ w.reply.ghost_name
+same_name [] w = refl
+same_name (b ∷ bs) w = same_name bs (next_byte w b) ∙ one-name b w
 
--- what a state says, taken apart
-same : (r n : ℕ) (t s : List ℕ) → laid r t ≡ laid n s → r ≡ n
-same r n t s e = cc
-
-same-slice : (r n : ℕ) (t s : List ℕ) → laid r t ≡ laid n s → t ≡ s
-same-slice r n t s e = cc
-
-counted : (bs : List ℕ) (n r : ℕ) (s t : List ℕ) → n + length bs ≤ 8192 → laid r t ≡ laying bs (laid n s) → r ≡ n + length bs
-counted [] n r s t h e = same r n t s (e ∙ nothing-laid n s) ∙ sym (add-zero n)
-counted (b ∷ bs) n r s t h e = counted bs (n + 1) r (set s n b) t (omega arith) (e ∙ first-laid b bs n s (omega arith)) ∙ omega arith
+counted : (bs : List ℕ) (w : Writer) → w.at + length bs ≤ 8192 → (laying bs w).at ≡ w.at + length bs
+counted [] w h = sym (add-zero w.at)
+counted (b ∷ bs) w h = ap (λ v. (laying bs v).at) (after-is b w (omega arith)) ∙ counted bs (after w b) (omega arith) ∙ omega arith
 
 -- the bytes behind a front p that is laid
-filled : (bs p t : List ℕ) → length p + length bs ≤ 8192 → length bs ≤ length t
-    → laying bs (laid (length p) (p ++ t)) ≡ laid (length p + length bs) ((p ++ bs) ++ drop (length bs) t)
-filled [] p t h k = nothing-laid (length p) (p ++ t) ∙ rw (append-nil, add-zero)
-filled (b ∷ bs) p [] h k = absurd (not-suc-le-zero k)
-filled (b ∷ bs) p (x ∷ t) h k =
+filled : (bs p t : List ℕ) (w : Writer) → w.at ≡ length p → w.reply.now ≡ p ++ t → length p + length bs ≤ 8192 → length bs ≤ length t
+    → (laying bs w).reply.now ≡ (p ++ bs) ++ drop (length bs) t
+filled [] p t w a e h k = e ∙ rw append-nil
+filled (b ∷ bs) p [] w a e h k = absurd (not-suc-le-zero k)
+filled (b ∷ bs) p (x ∷ t) w a e h k =
     let one : length (p ++ b ∷ []) ≡ length p + 1 = length-append p (b ∷ []) in
-    let all : length (p ++ b ∷ []) + length bs ≡ length p + suc (length bs) = omega arith in
-    let put : set (p ++ x ∷ t) (length p) b ≡ (p ++ b ∷ []) ++ t = rw add-zero at (set_past p (x ∷ t) (length p) 0 b refl) ∙ sym (append_assoc p (b ∷ []) t) in
-    first-laid b bs (length p) (p ++ x ∷ t) (omega arith)
-    ∙ rw (put, ← one) (filled bs (p ++ b ∷ []) t (omega arith) (le_of_suc-le-suc k) ∙ rw (all, append_assoc p (b ∷ []) bs))
+    let put : set w.reply.now w.at b ≡ (p ++ b ∷ []) ++ t =
+    rw (a, e) (rw add-zero at (set_past p (x ∷ t) (length p) 0 b refl) ∙ sym (append_assoc p (b ∷ []) t)) in
+    ap (λ v. (laying bs v).reply.now) (after-is b w (omega arith))
+    ∙ (filled bs (p ++ b ∷ []) t (after w b) (omega arith) put (omega arith) (le_of_suc-le-suc k) ∙ rw (append_assoc p (b ∷ []) bs))
 
-pub length-counted : (bs : List ℕ) (r : ℕ) (s t : List ℕ) → length bs ≤ 8192 → laid r t ≡ laying bs (laid 0 s) → r ≡ length bs
-length-counted bs r s t h e = counted bs 0 r s t (omega arith) e ∙ omega arith
+module _ (bs : List ℕ) (w : Writer) (start : w.at ≡ 0) (few : length bs ≤ 8192) where
+  pub length-counted : (laying bs w).at ≡ length bs
+  length-counted = counted bs w (omega arith) ∙ omega arith
 
-pub room : (bs : List ℕ) (r n : ℕ) (s t : List ℕ) → length bs ≤ 8192 → n ≡ length bs → n ≤ length s → laid r t ≡ laying bs (laid 0 s) → t ≡ written_of bs s
-unfolding written_of
-room bs r n s t h e k q =
-    let f : laid r t ≡ laid (0 + length bs) (bs ++ drop (length bs) s) = q ∙ filled bs [] s (omega arith) (omega arith) in
-    rw (le-leb (length bs) (length s) (omega arith)) (same-slice r (0 + length bs) t (bs ++ drop (length bs) s) f)
+  pub room : length bs ≤ length w.reply.now → (laying bs w).reply.now ≡ written_of bs w.reply.now
+  unfolding written_of
+  room k = rw (le-leb (length bs) (length w.reply.now) k) (filled bs [] w.reply.now w start refl (omega arith) k)
 
 pub no-room : (bs : List ℕ) (n : ℕ) (s : List ℕ) → n ≡ length bs → length s < n → s ≡ written_of bs s
 unfolding written_of

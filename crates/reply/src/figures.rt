@@ -1,73 +1,74 @@
 // Whole numbers in decimal, and floats as the sixteen hexadecimal digits of their bits.
-ghost use Rattle.std.specs.Prelude.{◌≡◌, ◌+◌, ◌%◌};
+ghost use Rattle.std.specs.Prelude.{◌≡◌, ◌%◌};
 ghost use Rattle.std.specs.Float.{binary64};
 ghost use Rattle.std.specs.Float.Ieee.{to_bits};
 ghost use Rattle.spelling.specs.Printed.{decimal, hex_digit, hexadecimal};
-ghost use Rattle.reply.specs.Figures.{whole, float};
-ghost use Rattle.reply.specs.Laid.{laid, laying};
 
-use crate::laying::put;
-
-// The last digit.
-fn digit(n: usize) -> u8
-    ensures { result ≡ 48 + n % 10 }
-{
-    b'0' + (n % 10) as u8
-}
-
-// All the digits, those in front first. A usize has at most twenty.
-fn digits(reply: &mut [u8], at: usize, n: usize) -> usize
-    ensures { laid result reply.new ≡ laying (decimal 19 n) (laid at reply.old) }
-{
-    if n < 10 {
-        return put(reply, at, digit(n));
-    }
-    let at = digits(reply, at, n / 10);
-    put(reply, at, digit(n))
-}
-
-// A whole number and the byte after it.
-pub(crate) fn put_whole(reply: &mut [u8], at: usize, n: usize, b: u8) -> usize
-    ensures { laid result reply.new ≡ laying (whole n b) (laid at reply.old) }
-{
-    let at = digits(reply, at, n);
-    put(reply, at, b)
-}
+use crate::writer::Writer;
 
 // The last hexadecimal digit.
-fn hex(b: u64) -> u8
+#[tactic(auto, unfolding(spelling::specs::Printed::hex_digit))]
+fn hex_digit(b: u64) -> u8
     ensures { result ≡ hex_digit (b % 16) }
 {
     let d = (b % 16) as u8;
     if d < 10 { b'0' + d } else { b'a' - 10 + d }
 }
 
-// The last k hexadecimal digits, those in front first.
-fn hex_digits(reply: &mut [u8], at: usize, k: usize, b: u64) -> usize
-    ensures { laid result reply.new ≡ laying (hexadecimal k b) (laid at reply.old) }
-{
-    if k == 0 {
-        return at;
-    }
-    let at = hex_digits(reply, at, k - 1, b / 16);
-    put(reply, at, hex(b))
-}
-
 // The bits that are written: a NaN has none of its own, so it is tested for first.
 fn bits(x: f64) -> u64
     ensures { result ≡ to_bits binary64 x }
 {
-    if x != x {
+    if x.is_nan() {
         0x7ff8_0000_0000_0000
     } else {
-        f64::to_bits(x)
+        x.to_bits()
     }
 }
 
-// A float and the byte after it.
-pub(crate) fn put_float(reply: &mut [u8], at: usize, x: f64, b: u8) -> usize
-    ensures { laid result reply.new ≡ laying (float x b) (laid at reply.old) }
-{
-    let at = hex_digits(reply, at, 16, bits(x));
-    put(reply, at, b)
+impl Writer<'_> {
+    ghost use Rattle.reply.specs.Figures.{whole, float};
+    ghost use Rattle.reply.specs.Laid.{next_byte, laying};
+
+    // All the digits, those in front first. A usize has at most twenty.
+    #[tactic(auto, using(crate::proofs::Laws::one_digit, crate::proofs::Laws::more_digits))]
+    fn digits(&mut self, n: usize)
+        ensures { self.new ≡ laying (decimal 19 n) self.old }
+    {
+        if n < 10 {
+            self.byte(b'0' + n as u8);
+        } else {
+            self.digits(n / 10);
+            self.byte(b'0' + (n % 10) as u8);
+        }
+    }
+
+    // The last k hexadecimal digits, those in front first.
+    #[tactic(auto, using(crate::proofs::Laws::no_hex, crate::proofs::Laws::more_hex))]
+    fn hex_digits(&mut self, k: usize, b: u64)
+        ensures { self.new ≡ laying (hexadecimal k b) self.old }
+    {
+        if 0 < k {
+            self.hex_digits(k - 1, b / 16);
+            self.byte(hex_digit(b));
+        }
+    }
+
+    // A whole number and the byte after it.
+    #[tactic(auto, unfolding(crate::specs::Figures::whole))]
+    pub(crate) fn whole(&mut self, n: usize, b: u8)
+        ensures { self.new ≡ laying (whole n b) self.old }
+    {
+        self.digits(n);
+        self.byte(b);
+    }
+
+    // A float and the byte after it.
+    #[tactic(auto, unfolding(crate::specs::Figures::float))]
+    pub(crate) fn float(&mut self, x: f64, b: u8)
+        ensures { self.new ≡ laying (float x b) self.old }
+    {
+        self.hex_digits(16, bits(x));
+        self.byte(b);
+    }
 }

@@ -1,118 +1,74 @@
 // The parts of a reply: lines of one sort after another.
-ghost use Rattle.std.specs.Prelude.{◌≡◌, ◌≤◌, ◌+◌, ◌*◌};
-ghost use Rattle.reply.specs.Laid.{laid, laying};
-ghost use Rattle.reply.specs.Lines.{suspect_line, point_line, measure_line};
-ghost use Rattle.reply.specs.Reply.{rising, group_lines, output_lines, fitted_lines, mark_count, failed_lines, lines_after, reply_of};
+ghost use Rattle.std.specs.Prelude.{◌≡◌, min};
 
-use crate::lines::{
-    failed_line, group_line, measure_line, point_line, status_line, suspect_line, total_lines,
-};
+use crate::writer::Writer;
 use answer::Answer;
-use loops::smaller;
 use sketch::Ending;
 
-fn group_lines(reply: &mut [u8], at: usize, a: Answer) -> usize
-    ensures { laid result reply.new ≡ laying (group_lines a) (laid at reply.old) }
-{
-    let groups = a.groups;
-    let n = smaller(a.group_count, 40);
-    let mut next = at;
-    for i in 0..n {
-        let g = groups[i];
-        next = group_line(reply, next, g);
+// The numbers that a fit handed out: two for each point, then one for each measure.
+#[derive(Clone, Copy)]
+pub(crate) struct Output<'a> {
+    pub(crate) out: &'a [f64],
+    pub(crate) points: usize,
+    pub(crate) measures: usize,
+}
+
+impl Writer<'_> {
+    ghost use Rattle.reply.specs.Laid.{laying};
+    ghost use Rattle.reply.specs.Reply.{output_lines, fitted_lines, failed_lines, reply_of};
+
+    #[tactic(auto, using(crate::proofs::Laws::rising_none, crate::proofs::Laws::rising_next), unfolding(crate::specs::Reply::output_lines))]
+    fn output_lines(&mut self, o: Output)
+        ensures { self.new ≡ laying (output_lines o.entry.out.now (min o.entry.points 40) (min o.entry.measures 20)) self.old }
+    {
+        // A job has no more of either. By number: a NaN is printed for what stands past the end of `out`.
+        let points = o.points.min(40);
+        for i in 0..points {
+            self.point_line(o.out, i);
+        }
+        for j in 0..o.measures.min(20) {
+            self.measure_line(o.out, 2 * points + j);
+        }
     }
-    next
-}
 
-fn point_lines(reply: &mut [u8], at: usize, out: &[f64], p: usize) -> usize
-    requires { p ≤ 40 }
-    ensures { laid result reply.new ≡ laying (rising (point_line out.now) p) (laid at reply.old) }
-{
-    let mut next = at;
-    for i in 0..p {
-        next = point_line(reply, next, out, i);
+    #[tactic(auto, using(crate::proofs::Laws::rising_none, crate::proofs::Laws::rising_next), unfolding(crate::specs::Reply::fitted_lines))]
+    fn fitted_lines(&mut self, a: &Answer, o: Output)
+        ensures { self.new ≡ laying (fitted_lines a.now o.entry.out.now (min o.entry.points 40) (min o.entry.measures 20)) self.old }
+    {
+        self.total_lines(a);
+        for g in a.groups() {
+            self.group_line(g);
+        }
+        self.output_lines(o);
     }
-    next
-}
 
-fn measure_lines(reply: &mut [u8], at: usize, out: &[f64], p: usize, m: usize) -> usize
-    requires { (p ≤ 40) × (m ≤ 20) }
-    ensures { laid result reply.new ≡ laying (rising (λ j. measure_line out.now (2 * p + j)) m) (laid at reply.old) }
-{
-    let mut next = at;
-    for j in 0..m {
-        next = measure_line(reply, next, out, 2 * p + j);
+    #[tactic(auto, using(crate::proofs::Laws::rising_none, crate::proofs::Laws::rising_next), unfolding(crate::specs::Reply::failed_lines))]
+    fn failed_lines(&mut self, a: &Answer)
+        ensures { self.new ≡ laying (failed_lines a.now) self.old }
+    {
+        self.failed_line(&a.groups[0]);
+        for (k, marked) in a.suspects.iter().enumerate() {
+            if *marked {
+                self.suspect_line(k);
+            }
+        }
     }
-    next
-}
 
-fn suspect_lines(reply: &mut [u8], at: usize, suspects: [bool; 40]) -> usize
-    ensures { laid result reply.new ≡ laying (rising (suspect_line suspects) mark_count) (laid at reply.old) }
-{
-    let mut next = at;
-    for k in 0..40usize {
-        next = suspect_line(reply, next, suspects, k);
+    #[tactic(auto, unfolding(crate::specs::Reply::reply_of))]
+    pub(crate) fn reply(&mut self, a: &Answer, o: Output)
+        ensures { self.new ≡ laying (reply_of a.now o.entry.out.now o.entry.points o.entry.measures) self.old }
+    {
+        self.status_line(a.ending);
+        match a.ending {
+            Ending::Fitted => self.fitted_lines(a, o),
+            Ending::NotConverged => self.failed_lines(a),
+            Ending::TooLong
+            | Ending::BadForm
+            | Ending::TooMany
+            | Ending::OutOfBounds
+            | Ending::NoSuchItem
+            | Ending::TooManyRows
+            | Ending::TooShort => {}
+        }
     }
-    next
-}
-
-fn output_lines(reply: &mut [u8], at: usize, out: &[f64], p: usize, m: usize) -> usize
-    requires { (p ≤ 40) × (m ≤ 20) }
-    ensures { laid result reply.new ≡ laying (output_lines out.now p m) (laid at reply.old) }
-{
-    let at = point_lines(reply, at, out, p);
-    measure_lines(reply, at, out, p, m)
-}
-
-fn failed_lines(reply: &mut [u8], at: usize, a: Answer) -> usize
-    ensures { laid result reply.new ≡ laying (failed_lines a) (laid at reply.old) }
-{
-    let groups = a.groups;
-    let suspects = a.suspects;
-    let g = groups[0];
-    let at = failed_line(reply, at, g);
-    suspect_lines(reply, at, suspects)
-}
-
-fn fitted_lines(reply: &mut [u8], at: usize, a: Answer, out: &[f64], p: usize, m: usize) -> usize
-    requires { (p ≤ 40) × (m ≤ 20) }
-    ensures { laid result reply.new ≡ laying (fitted_lines a out.now p m) (laid at reply.old) }
-{
-    let at = total_lines(reply, at, a);
-    let at = group_lines(reply, at, a);
-    output_lines(reply, at, out, p, m)
-}
-
-fn lines_after(reply: &mut [u8], at: usize, a: Answer, out: &[f64], p: usize, m: usize) -> usize
-    requires { (p ≤ 40) × (m ≤ 20) }
-    ensures { laid result reply.new ≡ laying (lines_after a.ending a out.now p m) (laid at reply.old) }
-{
-    let e = a.ending;
-    match e {
-        Ending::Fitted => fitted_lines(reply, at, a, out, p, m),
-        Ending::NotConverged => failed_lines(reply, at, a),
-        Ending::TooLong
-        | Ending::BadForm
-        | Ending::TooMany
-        | Ending::OutOfBounds
-        | Ending::NoSuchItem
-        | Ending::TooManyRows
-        | Ending::TooShort => at,
-    }
-}
-
-pub(crate) fn whole_reply(
-    reply: &mut [u8],
-    a: Answer,
-    points: usize,
-    measures: usize,
-    out: &[f64],
-) -> usize
-    ensures { laid result reply.new ≡ laying (reply_of a out.now points measures) (laid 0 reply.old) }
-{
-    let p = smaller(points, 40);
-    let m = smaller(measures, 20);
-    let e = a.ending;
-    let at = status_line(reply, 0, e);
-    lines_after(reply, at, a, out, p, m)
 }

@@ -1,43 +1,45 @@
 -- What the code does with values that it holds is what the definitions do with the rows. Assumes nothing.
 use Prim.Native.Nat.{ℕ, suc, ◌+◌, ◌≤◌, ◌<◌}
 use mathlib.Core.List.{List, [], ◌∷◌}
-use mathlib.Core.Path.{◌≡◌, refl, sym, ap, ◌∙◌}
+use mathlib.Core.Path.{◌≡◌, refl, sym, ap}
 use native.Mathlib.Omega.{arith}
 use lib.Ieee.{Float}
 use lib.ListN.{length, set, get_or, drop, get_or-eq_default}
 use Rattle.loops.specs.Turns.{fold}
 use Rattle.loops.proofs.Turning.{fold_next}
+use Rattle.plane.specs.declared.Vec2.{Vec2}
+use Rattle.sketch.specs.Blank.{blank_active}
 use Rattle.sketch.specs.declared.Active.{Active}
 use Rattle.sketch.specs.declared.Equation.{Equation}
 use Rattle.sketch.specs.declared.Line.{Line}
+use Rattle.sketch.specs.declared.PointNo.{PointNo}
+use Rattle.rows.proofs.Bounded.{bounded}
+use Rattle.rows.proofs.Given.{given}
 use Rattle.rows.specs.Column.{Laid, laid, equation_at, next_value, rows_at, values_next}
-use Rattle.sketch.specs.Blank.{blank_active}
+use Rattle.rows.specs.Ends.{ends_of, rows_given}
 use Rattle.rows.specs.Entries.{Row, values_of}
 use Rattle.rows.specs.Kinds.{rows_of_equation}
 use Rattle.rows.specs.Located.{at_of}
+use Rattle.rows.specs.declared.Ends.{Ends}
 use Rattle.rows.specs.declared.answer.Values.{Values}
 
 module _ (row : ℕ) (r : List Float) where
-  pub no-values : (rs : List Row) (v : Values) → v ≡ values_of rs → v.count ≡ 0 → laid row r ≡ fold next_value (laid row r) rs
-  unfolding values_of
-  no-values [] v e h = refl
-  no-values (a ∷ rs) v e h = absurd (let z : suc (length rs) ≡ 0 = sym (ap (λ (w : Values). w.count) e) ∙ h in omega arith)
+  -- what is stored of values from a row on
+  abbrev pub stored : Values → Laid
+  stored Values.None = laid row r
+  stored (Values.One v) = laid (row + 1) (set r row v)
+  stored (Values.Two v w) = laid (row + 2) (set (set r row v) (row + 1) w)
 
-  pub one_value : (rs : List Row) (v : Values) (r' : List Float) → v ≡ values_of rs → v.count ≡ 1 → r' ≡ set r row v.first
-      → laid (row + 1) r' ≡ fold next_value (laid row r) rs
-  unfolding values_of next_value
-  one_value [] v r' e h q = absurd (let z : ◌≡◌ {A = ℕ} 0 1 = sym (ap (λ (w : Values). w.count) e) ∙ h in omega arith)
-  one_value (a ∷ []) v r' e h q = rw (q, e)
-  one_value (a ∷ b ∷ rs) v r' e h q =
-      absurd (let z : suc (suc (length rs)) ≡ 1 = sym (ap (λ (w : Values). w.count) e) ∙ h in omega arith)
+  all-stored : (rs : List Row) → length rs ≤ 2 → stored (values_of rs) ≡ fold next_value (laid row r) rs
+  unfolding next_value
+  all-stored [] b = refl
+  all-stored (a ∷ []) b = refl
+  all-stored (a ∷ c ∷ []) b = let e : row + 2 ≡ row + 1 + 1 = omega arith in ap (λ k. laid k (set (set r row a.value) (row + 1) c.value)) e
+  all-stored (a ∷ c ∷ d ∷ rs) b = absurd (omega (arith, b))
 
-  pub two-values : (rs : List Row) (v : Values) (r' r'' : List Float) → length rs ≤ 2 → v ≡ values_of rs → (v.count ≡ 0 → ⊥) → (v.count ≡ 1 → ⊥)
-      → r' ≡ set r row v.first → r'' ≡ set r' (row + 1) v.second → laid (row + 1 + 1) r'' ≡ fold next_value (laid row r) rs
-  unfolding values_of next_value
-  two-values [] v r' r'' b e h k q p = absurd (h (ap (λ (w : Values). w.count) e))
-  two-values (a ∷ []) v r' r'' b e h k q p = absurd (k (ap (λ (w : Values). w.count) e))
-  two-values (a ∷ c ∷ []) v r' r'' b e h k q p = rw (p, q, e)
-  two-values (a ∷ c ∷ d ∷ rs) v r' r'' b e h k q p = absurd (omega (arith, b))
+  pub values-stored : (ls : List Line) (at : PointNo → Vec2) (e : Equation) (s : Ends) (v : Values) → s ≡ ends_of ls e → v ≡ values_of (rows_given s at e)
+      → stored v ≡ fold next_value (laid row r) (rows_of_equation ls at e)
+  values-stored ls at e s v p q = rw (q, p, ← given ls at e) (all-stored (rows_given (ends_of ls e) at e) (bounded (ends_of ls e) at e))
 
 -- ---- a turn of the loop over the chosen equations
 

@@ -1,4 +1,3 @@
 pub mod Bounded
-pub mod Found
 pub mod Held
 pub mod Given

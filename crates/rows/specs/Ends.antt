@@ -1,7 +1,7 @@
 -- The lines that an equation names, looked up before its rows are worked out; and the rows from their ends.
-use Rattle.std.specs.Prelude.{ℕ, cond, List, [], ltb, get_or}
+use Rattle.std.specs.Prelude.{List, [], get_or}
 use Rattle.plane.specs.declared.Vec2.{Vec2}
-use Rattle.sketch.specs.Involved.{no_line, line_at, lines_named}
+use Rattle.sketch.specs.Involved.{line_at, lines_named}
 use Rattle.sketch.specs.declared.Equation.{Equation}
 use Rattle.sketch.specs.declared.Line.{Line}
 use Rattle.sketch.specs.declared.LineNo.{LineNo}
@@ -46,19 +46,10 @@ neither_of = only_of (record { 0 = 0 })
 abbrev pub line_nos_of : Equation → LineNos
 line_nos_of e = both_of (get_or (lines_named e) 0 (record { 0 = 0 })) (get_or (lines_named e) 1 (record { 0 = 0 }))
 
--- ---- and their ends: as the build has them, and as the code finds them among 40 lines
+-- ---- and their ends, as the build has them
 
 abbrev pub ends_of : List Line → Equation → Ends
 ends_of ls e = record { first = line_at ls (line_nos_of e).first; second = line_at ls (line_nos_of e).second }
-
-abbrev pub place_of : LineNo → ℕ
-place_of l = cond (ltb l.0 40) l.0 0
-
-abbrev pub end_of : LineNo → Line → Line
-end_of l at = cond (ltb l.0 40) at no_line
-
-abbrev pub found_of : LineNos → Line → Line → Ends
-found_of n i j = record { first = end_of n.first i; second = end_of n.second j }
 
 -- ---- the rows, where the ends are given
 

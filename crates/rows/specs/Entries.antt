@@ -1,6 +1,6 @@
 -- One row, as the Rust's `emit` takes it: its value, and its gradient as entries (point, dx, dy) in order. At most two rows
 -- come of an equation.
-use Rattle.std.specs.Prelude.{List, [], Float, length, get_or}
+use Rattle.std.specs.Prelude.{List, [], ◌∷◌, Float}
 use Rattle.floats.specs.Ops.{zero⁺}
 use Rattle.plane.specs.declared.Vec2.{Vec2}
 use Rattle.sketch.specs.declared.PointNo.{PointNo}
@@ -22,5 +22,7 @@ abbrev pub no_row : Row
 no_row = emit zero⁺ []
 
 -- rows as the code hands out their values
-unfoldable pub values_of : List Row → Values
-values_of rs = record { first = (get_or rs 0 no_row).value; second = (get_or rs 1 no_row).value; count = length rs }
+abbrev pub values_of : List Row → Values
+values_of [] = Values.None
+values_of (a ∷ []) = Values.One a.value
+values_of (a ∷ b ∷ _) = Values.Two a.value b.value

@@ -97,29 +97,29 @@ module _ (at : PointNo → Vec2) where
   abbrev dir : Line → Dir
   dir l = dir_of at l
 
-  unfoldable pub coincident_of : PointNo → PointNo → List Row
+  abbrev pub coincident_of : PointNo → PointNo → List Row
   coincident_of a b =
       emit ((at a).x ⊖ (at b).x) (entry a (vec one zero⁺) ∷ entry b (vec (neg one) zero⁺) ∷ [])
       ∷ emit ((at a).y ⊖ (at b).y) (entry a (vec zero⁺ one) ∷ entry b (vec zero⁺ (neg one)) ∷ [])
       ∷ []
 
-  unfoldable pub level_kind_of : PointNo → PointNo → ℕ → List Row
+  abbrev pub level_kind_of : PointNo → PointNo → ℕ → List Row
   level_kind_of a b axis =
       emit (along_axis axis (at b) ⊖ along_axis axis (at a)) (entry a (neg_of (on_axis axis one)) ∷ entry b (on_axis axis one) ∷ []) ∷ []
 
-  unfoldable pub parallel_of : Line → Line → List Row
+  abbrev pub parallel_of : Line → Line → List Row
   parallel_of i j =
       let di = dir i in
       let dj = dir j in
       emit (cross_of di.u dj.u) (through2_of i di (turned_down dj.u) j dj (turned_up di.u)) ∷ []
 
-  unfoldable pub perpendicular_of : Line → Line → List Row
+  abbrev pub perpendicular_of : Line → Line → List Row
   perpendicular_of i j =
       let di = dir i in
       let dj = dir j in
       emit (dot_of di.u dj.u) (through2_of i di dj.u j dj di.u) ∷ []
 
-  unfoldable pub collinear_of : Line → Line → List Row
+  abbrev pub collinear_of : Line → Line → List Row
   collinear_of i j =
       let di = dir i in
       let dj = dir j in
@@ -131,7 +131,7 @@ module _ (at : PointNo → Vec2) where
       ∷ emit (cross_of di.u q) (through1_of i di (turned_down q) ++ entry c along ∷ entry a (neg_of along) ∷ [])
       ∷ []
 
-  unfoldable pub equal_of : Line → Line → List Row
+  abbrev pub equal_of : Line → Line → List Row
   equal_of i j =
       let di = dir i in
       let dj = dir j in
@@ -139,12 +139,12 @@ module _ (at : PointNo → Vec2) where
       (entry i.to di.u ∷ entry i.from (neg_of di.u) ∷ entry j.to (neg_of dj.u) ∷ entry j.from dj.u ∷ [])
       ∷ []
 
-  unfoldable pub distance_of : PointNo → PointNo → Float → List Row
+  abbrev pub distance_of : PointNo → PointNo → Float → List Row
   distance_of a b value =
       let d = unit_from_of (at a) (at b) in
       emit (d.len ⊖ value) (entry b d.u ∷ entry a (neg_of d.u) ∷ []) ∷ []
 
-  unfoldable pub axis_distance_of : PointNo → PointNo → ℕ → Float → Float → List Row
+  abbrev pub axis_distance_of : PointNo → PointNo → ℕ → Float → Float → List Row
   axis_distance_of a b axis value side =
       let d = on_axis axis side in
       emit (side ⊗ (along_axis axis (at b) ⊖ along_axis axis (at a)) ⊖ value) (entry b d ∷ entry a (neg_of d) ∷ []) ∷ []
@@ -157,10 +157,10 @@ module _ (at : PointNo → Vec2) where
       emit (along_axis i (at p) ⊖ half ⊗ (along_axis i (at l.from) ⊕ along_axis i (at l.to)))
       (entry p d ∷ entry l.from less ∷ entry l.to less ∷ [])
 
-  unfoldable pub midpoint_of : PointNo → Line → List Row
+  abbrev pub midpoint_of : PointNo → Line → List Row
   midpoint_of p l = midpoint_row p l 0 ∷ midpoint_row p l 1 ∷ []
 
-  unfoldable pub arc_midpoint_of : PointNo → PointNo → PointNo → PointNo → List Row
+  abbrev pub arc_midpoint_of : PointNo → PointNo → PointNo → PointNo → List Row
   arc_midpoint_of p c f t =
       let df = unit_from_of (at c) (at f) in
       let dp = unit_from_of (at c) (at p) in
@@ -170,7 +170,7 @@ module _ (at : PointNo → Vec2) where
       ∷ emit (da.len ⊖ db.len) (entry p (sub_of da.u db.u) ∷ entry f (neg_of da.u) ∷ entry t db.u ∷ [])
       ∷ []
 
-  unfoldable pub symmetric_of : PointNo → PointNo → Line → List Row
+  abbrev pub symmetric_of : PointNo → PointNo → Line → List Row
   symmetric_of p q l =
       let a = l.from in
       let d = dir l in
@@ -182,18 +182,18 @@ module _ (at : PointNo → Vec2) where
       ∷ emit (dot_of d.u w) (through1_of l d w ++ entry q d.u ∷ entry p (neg_of d.u) ∷ [])
       ∷ []
 
-  unfoldable pub equal_radius_of : PointNo → PointNo → PointNo → PointNo → List Row
+  abbrev pub equal_radius_of : PointNo → PointNo → PointNo → PointNo → List Row
   equal_radius_of c₁ f₁ c₂ f₂ =
       let d₁ = unit_from_of (at c₁) (at f₁) in
       let d₂ = unit_from_of (at c₂) (at f₂) in
       emit (d₁.len ⊖ d₂.len) (entry f₁ d₁.u ∷ entry c₁ (neg_of d₁.u) ∷ entry f₂ (neg_of d₂.u) ∷ entry c₂ d₂.u ∷ []) ∷ []
 
-  unfoldable pub length_of : Line → Float → List Row
+  abbrev pub length_of : Line → Float → List Row
   length_of l value =
       let d = dir l in
       emit (d.len ⊖ value) (entry l.to d.u ∷ entry l.from (neg_of d.u) ∷ []) ∷ []
 
-  unfoldable pub point_line_of : PointNo → Line → Float → Float → List Row
+  abbrev pub point_line_of : PointNo → Line → Float → Float → List Row
   point_line_of p l value side =
       let a = l.from in
       let d = dir l in
@@ -201,18 +201,18 @@ module _ (at : PointNo → Vec2) where
       let toward = side_up side d.u in
       emit (side ⊗ cross_of d.u q ⊖ value) (through1_of l d (side_down side q) ++ entry p toward ∷ entry a (neg_of toward) ∷ []) ∷ []
 
-  unfoldable pub arc_ends_of : PointNo → PointNo → PointNo → List Row
+  abbrev pub arc_ends_of : PointNo → PointNo → PointNo → List Row
   arc_ends_of c f t =
       let df = unit_from_of (at c) (at f) in
       let dt = unit_from_of (at c) (at t) in
       emit (df.len ⊖ dt.len) (entry f df.u ∷ entry c (sub_of dt.u df.u) ∷ entry t (neg_of dt.u) ∷ []) ∷ []
 
-  unfoldable pub radius_kind_of : PointNo → PointNo → Float → List Row
+  abbrev pub radius_kind_of : PointNo → PointNo → Float → List Row
   radius_kind_of c f value =
       let d = unit_from_of (at c) (at f) in
       emit (d.len ⊖ value) (entry f d.u ∷ entry c (neg_of d.u) ∷ []) ∷ []
 
-  unfoldable pub line_circle_of : Line → PointNo → Rad → Float → List Row
+  abbrev pub line_circle_of : Line → PointNo → Rad → Float → List Row
   line_circle_of l c rad side =
       let a = l.from in
       let d = dir l in
@@ -222,7 +222,7 @@ module _ (at : PointNo → Vec2) where
       (through1_of l d (side_down side q) ++ entry c toward ∷ entry a (neg_of toward) ∷ radius_entries at rad c (neg one))
       ∷ []
 
-  unfoldable pub circle_circle_of : PointNo → Rad → PointNo → Rad → Contact → List Row
+  abbrev pub circle_circle_of : PointNo → Rad → PointNo → Rad → Contact → List Row
   circle_circle_of c₁ r₁ c₂ r₂ contact =
       let d = unit_from_of (at c₁) (at c₂) in
       let s₁ = first_sign contact in
@@ -231,14 +231,14 @@ module _ (at : PointNo → Vec2) where
       (entry c₂ d.u ∷ entry c₁ (neg_of d.u) ∷ radius_entries at r₁ c₁ s₁ ++ radius_entries at r₂ c₂ s₂)
       ∷ []
 
-  unfoldable pub line_arc_at_of : Line → PointNo → PointNo → List Row
+  abbrev pub line_arc_at_of : Line → PointNo → PointNo → List Row
   line_arc_at_of l c p =
       let d = dir l in
       let w = unit_from_of (at c) (at p) in
       let gp = across_of w.u d.u w.len in
       emit (dot_of d.u w.u) (through1_of l d w.u ++ entry p gp ∷ entry c (neg_of gp) ∷ []) ∷ []
 
-  unfoldable pub arc_arc_at_of : PointNo → PointNo → PointNo → List Row
+  abbrev pub arc_arc_at_of : PointNo → PointNo → PointNo → List Row
   arc_arc_at_of c₁ c₂ p =
       let w₁ = unit_from_of (at c₁) (at p) in
       let w₂ = unit_from_of (at c₂) (at p) in

@@ -3,14 +3,15 @@
 
 #![tactic(auto)]
 
-mod answer;
+pub mod answer;
 mod lines;
-pub mod located;
+mod located;
 mod residual;
 mod sweep;
 pub mod vectors;
 
-pub use lines::{ends_of, lines_of, place_of};
+pub use lines::{ends_of, lines_of};
+pub use located::Located;
 use plane::Vec2;
 pub use residual::values;
 use sketch::{Line, LineNo, PointNo};

@@ -1,30 +1,62 @@
 -- `shapes-are-whole`: an equation, and a measure, is made again from its shape, so the shape leaves nothing out. `fields-agree`: what is made
 -- of a kind and of fields of its sorts has that shape. Assumes nothing.
-use mathlib.Core.List.{List}
+use mathlib.Core.List.{List, [], ◌∷◌}
 use mathlib.Core.Path.{◌≡◌, refl, sym, ap, ◌∙◌}
-use Rattle.sketch.specs.Fields.{Field, shape_of, measure_shape, ShapesAreWhole}
-use Rattle.sketch.specs.Kinds.{fields_of, measured_fields}
-use Rattle.sketch.specs.Made.{round, touching, rad_in, contact_in, equation_from, measure_from, Row, row_fields, FieldsAgree}
+use Prim.Native.Nat.{ℕ}
+use lib.Ieee.{Float, nan}
+use Rattle.sketch.specs.Fields.{Field, point, line, value, size, axis, side, radius, contact, shape_of, measure_shape, ShapesAreWhole}
+use Rattle.sketch.specs.Kinds.{Sort, fields_of, measured_fields}
+use Rattle.sketch.specs.Made.{point_no, line_no, Stands, Row, row_fields, equation_of, measure_of, FieldsAgree}
 use Rattle.sketch.specs.declared.Contact.{Contact}
 use Rattle.sketch.specs.declared.Equation.{Equation}
 use Rattle.sketch.specs.declared.Gauge.{Gauge}
 use Rattle.sketch.specs.declared.Kind.{Kind}
+use Rattle.sketch.specs.declared.LineNo.{LineNo}
 use Rattle.sketch.specs.declared.Measure.{Measure}
+use Rattle.sketch.specs.declared.PointNo.{PointNo}
 use Rattle.sketch.specs.declared.Rad.{Rad}
 
+-- what a field holds, beside what it does not
+record Parts : Type 0 where
+  pub a_point : PointNo
+  pub a_line : LineNo
+  pub number : Float
+  pub an_axis : ℕ
+  pub a_radius : Rad
+  pub a_contact : Contact
+
+abbrev none : Parts
+none = record { a_point = point_no 0; a_line = line_no 0; number = nan; an_axis = 0; a_radius = Rad.Value nan; a_contact = Contact.Outside }
+
+abbrev parts_of : Field → Parts
+parts_of (point p) = record none { a_point = p }
+parts_of (line l) = record none { a_line = l }
+parts_of (value v) = record none { number = v }
+parts_of (size v) = record none { number = v }
+parts_of (axis a) = record none { an_axis = a }
+parts_of (side s) = record none { number = s }
+parts_of (radius r) = record none { a_radius = r }
+parts_of (contact k) = record none { a_contact = k }
+
+abbrev stands : (f : Sort) → Parts → Stands f
+stands Sort.Point p = p.a_point
+stands Sort.Line p = p.a_line
+stands Sort.Value p = p.number
+stands Sort.Axis p = p.an_axis
+stands Sort.Side p = p.number
+stands Sort.Radius p = p.a_radius
+stands Sort.Contact p = p.a_contact
+
+abbrev row_of : (l : List Sort) → List Field → Row l
+row_of [] m = tt
+row_of (f ∷ l) [] = (stands f none, row_of l [])
+row_of (f ∷ l) (x ∷ m) = (stands f (parts_of x), row_of l m)
+
 abbrev from_shape : Kind × List Field → Equation
-from_shape r = equation_from r.0 r.1
+from_shape r = equation_of r.0 (row_of (fields_of r.0) r.1)
 
 abbrev from_measured : Gauge × List Field → Measure
-from_measured r = measure_from r.0 r.1
-
-rad-again : (r : Rad) → rad_in (round r) ≡ r
-rad-again (Rad.Point p) = refl
-rad-again (Rad.Value v) = refl
-
-contact-again : (k : Contact) → contact_in (touching k) ≡ k
-contact-again Contact.Outside = refl
-contact-again (Contact.Inside s) = refl
+from_measured r = measure_of r.0 (row_of (measured_fields r.0) r.1)
 
 again : (e : Equation) → from_shape (shape_of e) ≡ e
 again (Equation.Coincident a b) = refl
@@ -40,8 +72,8 @@ again (Equation.Length l v) = refl
 again (Equation.PointLine p l v s) = refl
 again (Equation.ArcEnds c f t) = refl
 again (Equation.Radius c f v) = refl
-again (Equation.LineCircle l c r s) = rw (rad-again r)
-again (Equation.CircleCircle c₁ r₁ c₂ r₂ k) = rw (rad-again r₁, rad-again r₂, contact-again k)
+again (Equation.LineCircle l c r s) = refl
+again (Equation.CircleCircle c₁ r₁ c₂ r₂ k) = refl
 again (Equation.LineArcAt l c p) = refl
 again (Equation.ArcArcAt c₁ c₂ p) = refl
 again (Equation.Midpoint p l) = refl
@@ -63,7 +95,7 @@ shapes-are-whole = (
 )
 
 -- `fields-agree`: kind by kind
-kind-agrees : (k : Kind) (m : Row (fields_of k)) → let l = row_fields (fields_of k) m in shape_of (equation_from k l) ≡ (k, l)
+kind-agrees : (k : Kind) (m : Row (fields_of k)) → shape_of (equation_of k m) ≡ (k, row_fields (fields_of k) m)
 kind-agrees Kind.Coincident m = refl
 kind-agrees Kind.Level m = refl
 kind-agrees Kind.Parallel m = refl
@@ -77,8 +109,8 @@ kind-agrees Kind.Length m = refl
 kind-agrees Kind.PointLine m = refl
 kind-agrees Kind.ArcEnds m = refl
 kind-agrees Kind.Radius m = refl
-kind-agrees Kind.LineCircle m = rw (rad-again m.1.1.0)
-kind-agrees Kind.CircleCircle m = rw (rad-again m.1.0, rad-again m.1.1.1.0, contact-again m.1.1.1.1.0)
+kind-agrees Kind.LineCircle m = refl
+kind-agrees Kind.CircleCircle m = refl
 kind-agrees Kind.LineArcAt m = refl
 kind-agrees Kind.ArcArcAt m = refl
 kind-agrees Kind.Midpoint m = refl
@@ -86,7 +118,7 @@ kind-agrees Kind.ArcMidpoint m = refl
 kind-agrees Kind.Symmetric m = refl
 kind-agrees Kind.EqualRadius m = refl
 
-gauge-agrees : (g : Gauge) (m : Row (measured_fields g)) → let l = row_fields (measured_fields g) m in measure_shape (measure_from g l) ≡ (g, l)
+gauge-agrees : (g : Gauge) (m : Row (measured_fields g)) → measure_shape (measure_of g m) ≡ (g, row_fields (measured_fields g) m)
 gauge-agrees Gauge.Distance m = refl
 gauge-agrees Gauge.AxisDistance m = refl
 gauge-agrees Gauge.Length m = refl

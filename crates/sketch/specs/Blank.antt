@@ -1,5 +1,5 @@
 -- What stands past a count: blank items, as many as a build has places. Builds with little in them, which worked cases are about.
-use Rattle.std.specs.Prelude.{ℕ, ◌-◌, List, ◌++◌, Float, length, replicate}
+use Rattle.std.specs.Prelude.{ℕ, ◌-◌, List, [], ◌++◌, Float, length, replicate}
 use Rattle.floats.specs.Ops.{zero⁺}
 use Rattle.plane.specs.declared.Vec2.{Vec2}
 use Rattle.sketch.specs.Involved.{no_line}
@@ -45,3 +45,7 @@ sample centre size ps ls es ms = record {
   measures = filled 20 blank_measured ms;
   measure_count = length ms;
 }
+
+-- a build with nothing in it
+abbrev pub empty_build : Build
+empty_build = sample origin zero⁺ [] [] [] []

@@ -1,6 +1,6 @@
 -- The points an equation touches, in the Rust's order (equations.rs, `involved`): those of its fields one after another, of a line both
 -- ends. Held touches none. And the lines that it names.
-use Rattle.std.specs.Prelude.{List, [], ◌∷◌, ◌++◌, length, get_or}
+use Rattle.std.specs.Prelude.{List, [], ◌∷◌, ◌++◌, length, get_or, take}
 use Rattle.sketch.specs.Fields.{Field, point, line, value, size, axis, side, radius, contact, equation_fields}
 use Rattle.sketch.specs.declared.Equation.{Equation}
 use Rattle.sketch.specs.declared.Line.{Line}
@@ -69,3 +69,7 @@ touched_of ps = record {
   points = get_or ps 0 no_point ∷ get_or ps 1 no_point ∷ get_or ps 2 no_point ∷ get_or ps 3 no_point ∷ [];
   count = length ps;
 }
+
+-- the points that it holds: as many as the count says, and no more than there are places
+abbrev pub named_by : Touched → List PointNo
+named_by t = take t.count t.points

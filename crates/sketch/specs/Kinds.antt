@@ -2,8 +2,10 @@
 use Rattle.std.specs.Prelude.{List, [], ◌∷◌}
 use Rattle.sketch.specs.declared.Gauge.{Gauge}
 use Rattle.sketch.specs.declared.Kind.{Kind}
-use Rattle.sketch.specs.declared.Sort.{Sort}
-use Rattle.sketch.specs.declared.Sort.TheVariants.{Point, Line, Value, Axis, Side, Radius, Contact}
+
+-- the sorts of fields
+pub data Sort : Type 0 where
+  Point Line Value Axis Side Radius Contact : Sort
 
 -- the fields of each kind, in the Rust's order (equations.rs, `Eq`)
 abbrev pub fields_of : Kind → List Sort

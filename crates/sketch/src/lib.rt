@@ -141,18 +141,6 @@ pub enum Kind {
     EqualRadius,
 }
 
-// The sorts of an equation's fields.
-#[derive(Clone, Copy)]
-pub enum Sort {
-    Point,
-    Line,
-    Value,
-    Axis,
-    Side,
-    Radius,
-    Contact,
-}
-
 // The kinds that are measured: a measure has the fields of its kind, but for the value.
 #[derive(Clone, Copy)]
 pub enum Gauge {
@@ -161,16 +149,6 @@ pub enum Gauge {
     Length,
     PointLine,
     Radius,
-}
-
-// What stands in a field: a point's, a line's or an axis's number, a value or a side, a radius or a contact. A radius by a point
-// and a contact outside are bare, which is 1: they have no value. It is a number since a bool leaves a gap, and a struct with a gap
-// is slow to move.
-#[derive(Clone, Copy)]
-pub struct Operand {
-    pub number: usize,
-    pub value: f64,
-    pub bare: usize,
 }
 
 // An array in a build holds structs, so an equation and a measure each stand in one of their own.
@@ -200,7 +178,40 @@ pub struct Build {
 
 // Of each sort as many items as its count says, and no more than there are places.
 impl Build {
+    ghost use Rattle.sketch.specs.Blank.{empty_build};
     ghost use Rattle.sketch.specs.Parts.{points_of, lines_of, equations_of, measures_of};
+
+    // A build with nothing in it.
+    pub fn empty() -> Build
+        ensures { result ≡ empty_build }
+    {
+        let point = Point {
+            start: Vec2 { x: 0.0, y: 0.0 },
+            state: State::Free,
+        };
+        let line = Line {
+            from: PointNo(0),
+            to: PointNo(0),
+        };
+        let active = Active {
+            equation: Equation::Held,
+        };
+        let measured = Measured {
+            measure: Measure::Length(LineNo(0)),
+        };
+        Build {
+            centre: Vec2 { x: 0.0, y: 0.0 },
+            size: 0.0,
+            points: [point; 40],
+            point_count: 0,
+            lines: [line; 40],
+            line_count: 0,
+            equations: [active; 40],
+            equation_count: 0,
+            measures: [measured; 20],
+            measure_count: 0,
+        }
+    }
 
     pub fn points(&self) -> &[Point]
         ensures { result.now ≡ points_of self.now }
@@ -232,6 +243,16 @@ impl Build {
 pub struct Touched {
     pub points: [PointNo; 4],
     pub count: usize,
+}
+
+impl Touched {
+    ghost use Rattle.sketch.specs.Involved.{named_by};
+
+    pub fn points(&self) -> &[PointNo]
+        ensures { result.now ≡ named_by self.now }
+    {
+        &self.points[..self.count.min(4)]
+    }
 }
 
 // The endings of a job, by name; document 01's number of each is `usize::from` of it.

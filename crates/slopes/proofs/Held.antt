@@ -2,38 +2,30 @@
 use Prim.Native.Nat.{ℕ, suc, ◌+◌, ◌*◌, ◌≤◌, ◌<◌}
 use mathlib.Core.List.{List, [], ◌∷◌}
 use mathlib.Core.Path.{◌≡◌, refl, ap, ◌∙◌}
-use native.Mathlib.Nat.{add-mul, mul-le-mul_right}
+use native.Mathlib.Nat.{add-mul}
 use native.Mathlib.Omega.{arith}
 use lib.Ieee.{Float}
 use lib.ListN.{length, get_or, drop}
 use Rattle.loops.specs.Turns.{fold}
 use Rattle.loops.proofs.Turning.{fold_next}
+use Rattle.plane.specs.declared.Vec2.{Vec2}
 use Rattle.sketch.specs.declared.Active.{Active}
 use Rattle.sketch.specs.declared.Equation.{Equation}
 use Rattle.sketch.specs.declared.Line.{Line}
+use Rattle.sketch.specs.declared.PointNo.{PointNo}
 use Rattle.rows.specs.Column.{Laid, laid, equation_at, rows_at}
+use Rattle.rows.specs.Ends.{ends_of, rows_given}
 use Rattle.rows.specs.Entries.{Row}
 use Rattle.rows.specs.Kinds.{rows_of_equation}
 use Rattle.rows.specs.Located.{at_of}
+use Rattle.rows.specs.declared.Ends.{Ends}
+use Rattle.rows.proofs.Bounded.{bounded}
+use Rattle.rows.proofs.Given.{given}
 use Rattle.rows.proofs.Held.{past-is-held}
-use Rattle.slopes.specs.Arms.{rows_from, rows_into}
+use Rattle.slopes.specs.Arms.{rows_from}
 use Rattle.slopes.specs.Dense.{next_row, row_into, rows_next}
-use Rattle.slopes.specs.declared.dense.Into.{Into}
-
--- a row's place in a table of at most 80 rows and 80 columns
-pub place : (a n : ℕ) → a ≤ 78 → n ≤ 80 → a * n ≤ 6320
-place a n h k = omega (arith, mul-le-mul_right n h)
-
--- where two rows fit, the first one does
-pub within : {base n : ℕ} → (base ≤ 6320) × (n ≤ 80) → (base ≤ 6400) × (n ≤ 80)
-within h = let k = h.0 in (omega arith, h.1)
 
 -- ---- the rows of one equation
-
-pub two-rows : (P C : List ℕ) (to : Into) (j mid j' : List Float) (r s : Row) → mid ≡ row_into P C to.n to.base j r.entries
-    → j' ≡ row_into P C to.n (to.base + to.n) mid s.entries → laid 2 j' ≡ rows_into P C to j (r ∷ s ∷ [])
-unfolding rows_from
-two-rows P C to j mid j' r s p q = rw (q, p)
 
 count : Laid → ℕ
 count (laid m j) = m
@@ -43,23 +35,23 @@ after row (laid m j) = laid (row + m) j
 
 module _ (P C : List ℕ) (n : ℕ) where
   rows-from : (row base : ℕ) (j : List Float) (rs : List Row) → base ≡ row * n
-      → laid (row + length rs) (rows_from P C (record { n = n; base = base }) j rs) ≡ fold (next_row P C n) (laid row j) rs
-  unfolding next_row rows_from
+      → laid (row + length rs) (rows_from P C n base j rs) ≡ fold (next_row P C n) (laid row j) rs
+  unfolding next_row
   rows-from row base j [] e = let z : row + 0 ≡ row = omega arith in ap (λ (k : ℕ). laid k j) z
   rows-from row base j (r ∷ rs) e =
       let next : base + n ≡ (row + 1) * n = rw (e, add-mul row 1 n) (omega arith) in
       let rest = rows-from (row + 1) (base + n) (row_into P C n base j r.entries) rs next in
       let more : row + suc (length rs) ≡ row + 1 + length rs = omega arith in
-      ap (λ (k : ℕ). laid k (rows_from P C (record { n = n; base = base + n }) (row_into P C n base j r.entries) rs)) more ∙ rest ∙ ap (λ (k : ℕ). fold (next_row P C n) (laid (row + 1) (row_into P C n k j r.entries)) rs) e
+      ap (λ (k : ℕ). laid k (rows_from P C n (base + n) (row_into P C n base j r.entries) rs)) more ∙ rest ∙ ap (λ (k : ℕ). fold (next_row P C n) (laid (row + 1) (row_into P C n k j r.entries)) rs) e
 
-  module _ (row m : ℕ) (j j' : List Float) (rs : List Row) (h : laid m j' ≡ rows_into P C (record { n = n; base = row * n }) j rs) where
-    pub rows-laid : laid (row + m) j' ≡ fold (next_row P C n) (laid row j) rs
+  module _ (ls : List Line) (at : PointNo → Vec2) (e : Equation) (s : Ends) (row m : ℕ) (j j' : List Float) (p : s ≡ ends_of ls e) (h : laid m j' ≡ laid (length (rows_given s at e)) (rows_from P C n (row * n) j (rows_given s at e))) where
+    pub rows-laid : laid (row + m) j' ≡ fold (next_row P C n) (laid row j) (rows_of_equation ls at e)
     unfolding after
-    rows-laid = ap (after row) h ∙ rows-from row (row * n) j rs refl
+    rows-laid = ap (after row) h ∙ rows-from row (row * n) j (rows_given s at e) refl ∙ rw p (ap (fold (next_row P C n) (laid row j)) (given ls at e))
 
-    pub few : length rs ≤ 2 → m ≤ 2
+    pub few : m ≤ 2
     unfolding count
-    few b = let e : m ≡ length rs = ap count h in rw e b
+    few = let q : m ≡ length (rows_given s at e) = ap count h in rw q (bounded s at e)
 
 -- ---- a turn of the loop over the chosen equations
 

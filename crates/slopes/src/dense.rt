@@ -1,70 +1,81 @@
 // The dense row that entries are added into.
 ghost use Rattle.std.specs.Prelude.{◌≡◌, ◌+◌, ◌≤◌, ◌<◌};
-ghost use Rattle.rows.specs.Entries.{entry};
-ghost use Rattle.slopes.specs.Dense.{free_of, add_at, add_entry, cleared_of};
-ghost use Rattle.slopes.specs.Arms.{next_of};
+ghost use Rattle.slopes.specs.Dense.{free_of, add_at};
 
 use plane::Vec2;
-use rows::located::{local, wide};
+use rows::Located;
 use sketch::{FreeNo, PointNo};
 
-// A row of n free coordinates, which starts at `base` in the lent slice.
+// A row of n free coordinates, which starts at `base` in the lent slice, and where the points that it is about stand, there and among
+// the free coordinates.
 #[derive(Clone, Copy)]
-pub(crate) struct Into {
+pub(crate) struct Dense<'a> {
+    pub points: Located<'a>,
+    pub columns: &'a [u8],
     pub n: usize,
     pub base: usize,
+    ghost narrow: { n ≤ 80 },
+    ghost within: { base ≤ 6400 },
 }
 
-// The row after it.
-pub(crate) fn next(to: Into) -> Into
-    requires { (to.base ≤ 6320) × (to.n ≤ 80) }
-    ensures { (result ≡ next_of to) × ((result.base ≤ 6400) × (result.n ≤ 80)) }
-{
-    Into {
-        n: to.n,
-        base: to.base + to.n,
+impl Dense<'_> {
+    ghost use Rattle.rows.specs.Entries.{entry};
+    ghost use Rattle.slopes.specs.Arms.{cleared, pushed};
+
+    fn free(self, c: usize) -> FreeNo
+        ensures { result ≡ free_of self.entry.columns.now c }
+    {
+        FreeNo(usize::from(slices::get_or(self.columns, c, 255)))
+    }
+
+    fn add_at(self, jac: &mut [f64], k: FreeNo, d: f64)
+        ensures { jac.new ≡ add_at self.entry.n self.entry.base k d jac.old }
+    {
+        if k.0 < self.n {
+            let place = self.base + k.0;
+            slices::put(jac, place, slices::get_or(jac, place, f64::NAN) + d);
+        }
+    }
+
+    // Adds what the row's gradient is with respect to the two coordinates of a point.
+    pub fn push(self, jac: &mut [f64], p: PointNo, d: Vec2)
+        ensures { jac.new ≡ pushed self.entry jac.old (entry p d) }
+    {
+        let k = self.points.local(p);
+        self.add_at(jac, self.free(2 * k), d.x);
+        self.add_at(jac, self.free(2 * k + 1), d.y);
+    }
+
+    // A row starts from +0.0.
+    pub fn clear(self, jac: &mut [f64])
+        ensures { jac.new ≡ cleared self.entry jac.old }
+    {
+        for c in 0..self.n {
+            slices::put(jac, self.base + c, 0.0);
+        }
     }
 }
 
-fn free(columns: &[u8], c: usize) -> FreeNo
-    ensures { result ≡ free_of columns.now c }
-{
-    if c < columns.len() {
-        FreeNo(wide(columns[c]))
-    } else {
-        FreeNo(255)
-    }
+// Where an equation's rows go: the first of them, and room for the one after it.
+#[derive(Clone, Copy)]
+pub(crate) struct Rows<'a> {
+    pub first: Dense<'a>,
+    ghost room: { first.base ≤ 6320 },
 }
 
-fn add_at(jac: &mut [f64], to: Into, k: FreeNo, d: f64)
-    requires { (to.base ≤ 6400) × (to.n ≤ 80) }
-    ensures { jac.new ≡ add_at to.n to.base k d jac.old }
-{
-    let at = k.0;
-    if at < to.n {
-        let place = to.base + at;
-        floats::put(jac, place, floats::get(jac, place) + d);
-    }
-}
-
-// Adds what a row's gradient is with respect to the two coordinates of a point.
-pub(crate) fn push(jac: &mut [f64], places: &[u8], columns: &[u8], to: Into, p: PointNo, d: Vec2)
-    requires { (to.base ≤ 6400) × (to.n ≤ 80) }
-    ensures { jac.new ≡ add_entry places.now columns.now to.n to.base jac.old (entry p d) }
-{
-    let k = local(places, p);
-    add_at(jac, to, free(columns, 2 * k), d.x);
-    add_at(jac, to, free(columns, 2 * k + 1), d.y);
-}
-
-// A row starts from +0.0.
-pub(crate) fn clear_row(jac: &mut [f64], to: Into)
-    requires { (to.base ≤ 6400) × (to.n ≤ 80) }
-    ensures { jac.new ≡ cleared_of to.n to.base jac.old }
-{
-    let n = to.n;
-    let base = to.base;
-    for c in 0..n {
-        floats::put(jac, base + c, 0.0);
+impl<'a> Rows<'a> {
+    pub fn second(self) -> Dense<'a>
+        ensures points { result.points ≡ self.entry.first.points }
+        ensures columns { result.columns ≡ self.entry.first.columns }
+        ensures n { result.n ≡ self.entry.first.n }
+        ensures base { result.base ≡ self.entry.first.base + self.entry.first.n }
+    {
+        let first = self.first;
+        Dense {
+            points: first.points,
+            columns: first.columns,
+            n: first.n,
+            base: first.base + first.n,
+        }
     }
 }

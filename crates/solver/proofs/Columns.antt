@@ -1,20 +1,25 @@
 -- The loop over the columns, turn by turn, as the code goes through it: a turn, a stop and the end (specs/Reasons.antt). Assumes nothing.
-use Prim.Native.Nat.{ℕ, zero, suc, ◌+◌, ◌-◌, ◌≤◌, ◌<◌}
-use mathlib.Core.Bool.{Bool, true, false}
-use mathlib.Core.Path.{◌≡◌, refl, sym, ◌∙◌}
+use Prim.Native.Nat.{ℕ, suc, ◌+◌, ◌-◌, ◌≤◌, ◌<◌}
+use mathlib.Core.Path.{◌≡◌, refl, sym, ap, ◌∙◌}
 use native.Mathlib.Omega.{arith}
-use Rattle.loops.specs.Turns.{Try, go, stop, tried}
-use Rattle.solver.specs.Inside.{columns_in}
-use Rattle.solver.specs.Reasons.{Reasoned, some, no_pivot, columns_from}
+use Rattle.std.specs.Prelude.{Ok, Err, is_ok}
+use Rattle.loops.specs.Turns.{Try, go, stop}
+use Rattle.solver.specs.declared.Unsolved.{Unsolved}
+use Rattle.solver.specs.declared.Unsolved.TheVariants.{NoPivot}
+use Rattle.solver.specs.Inside.{Reaches}
+use Rattle.solver.specs.Promise.{Answered}
+use Rattle.solver.specs.Reasons.{Reasoned, some, no_pivot, or_no_pivot, columns_from}
 use Rattle.solver.specs.Steps.{Sys}
 
-pub columns-some : (c : ℕ) (s : Sys) → c ≤ 0 → columns_in c s ≡ some s
-columns-some zero s h = refl
-columns-some (suc c) s h = absurd (omega (arith, h))
+-- ---- a turn's answer
 
-pub columns-none : (c : ℕ) (s : Sys) → 0 < c → columns_in c s ≡ no_pivot c
-columns-none zero s h = absurd (omega (arith, h))
-columns-none (suc c) s h = refl
+pub went : (t : Try Sys) (col : ℕ) (s : Sys) (r : Answered) (u : Unit {0}) → Reaches (or_no_pivot t col some) s r → r ≡ Ok u → t ≡ go s
+went (go v) col s r u g h = let e : some s ≡ some v = g.left (ap is_ok h) in cc
+went stop col s r u g h = let e : some s ≡ no_pivot (col + 1) = g.left (ap is_ok h) in cc
+
+pub lacked : (t : Try Sys) (col : ℕ) (s : Sys) (r : Answered) (e : Unsolved) → Reaches (or_no_pivot t col some) s r → r ≡ Err e → (t ≡ stop) × (e ≡ NoPivot (col + 1))
+lacked (go u) col s r e g h = cc (g.answer)
+lacked stop col s r e g h = (refl, cc (g.answer))
 
 -- ---- a turn, a stop and the end, as the code goes through them
 
@@ -31,13 +36,16 @@ module _ (f : ℕ → Sys → Try Sys) where
   unfolding columns_from
   from-done n col s e = rw e
 
-  pub columns-next : (n col : ℕ) (b : Bool) (s s' : Sys) (R : Reasoned Sys) → col < n → tried b s' ≡ f col s → b ≡ true → columns_from f (n - col) col s ≡ R
+  pub columns-next : (n col : ℕ) (s s' : Sys) (r : Answered) (u : Unit {0}) (R : Reasoned Sys) → col < n → Reaches (or_no_pivot (f col s) col some) s' r → r ≡ Ok u → columns_from f (n - col) col s ≡ R
       → columns_from f (n - (col + 1)) (col + 1) s' ≡ R
-  columns-next n col b s s' R h e t r = sym (from_next (n - (col + 1)) (n - col) col s s' (omega arith) (sym (rw t at e))) ∙ r
+  columns-next n col s s' r u R h g t q = sym (from_next (n - (col + 1)) (n - col) col s s' (omega arith) (went (f col s) col s' r u g t)) ∙ q
 
-  pub columns-stop : (n col : ℕ) (b : Bool) (s s' t : Sys) (R : Reasoned Sys) → col < n → tried b s' ≡ f col s → b ≡ false → columns_from f (n - col) col s ≡ R
-      → columns_in (col + 1) t ≡ R
-  columns-stop n col b s s' t R h e q r = columns-none (col + 1) t (omega arith) ∙ sym (from-stop (n - (col + 1)) (n - col) col s (omega arith) (sym (rw q at e))) ∙ r
+  pub columns-stop : (n col : ℕ) (s s' t : Sys) (r : Answered) (e : Unsolved) (R : Reasoned Sys) → col < n → Reaches (or_no_pivot (f col s) col some) s' r → r ≡ Err e
+      → columns_from f (n - col) col s ≡ R → Reaches R t (Err e)
+  columns-stop n col s s' t r e R h g q w =
+      let l = lacked (f col s) col s' r e g q in
+      let i : R ≡ no_pivot (col + 1) = sym w ∙ from-stop (n - (col + 1)) (n - col) col s (omega arith) l.0 in
+      rw (i, l.1) record { answer = refl; left = λ t. cc }
 
-  pub columns-done : (n col : ℕ) (s : Sys) (R : Reasoned Sys) → n ≤ col → columns_from f (n - col) col s ≡ R → columns_in 0 s ≡ R
-  columns-done n col s R h r = sym (from-done (n - col) col s (omega arith)) ∙ r
+  pub columns-done : (n col : ℕ) (s : Sys) (R : Reasoned Sys) → n ≤ col → columns_from f (n - col) col s ≡ R → Reaches R s (Ok tt)
+  columns-done n col s R h r = rw (← r, from-done (n - col) col s (omega arith)) record { answer = refl; left = λ t. refl }

@@ -1,4 +1,6 @@
 pub mod Checking
 pub mod Columns
+pub mod Rows
+pub mod Scales
 pub mod Reasons
 pub mod Lesser

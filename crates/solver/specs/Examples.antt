@@ -5,7 +5,7 @@ use Rattle.std.specs.Float.Ieee.{of_bits, to_bits, is_nan, add, sub, mul, div, l
 use Rattle.floats.specs.Lists.{swap_at}
 use Rattle.floats.specs.Ops.{zero⁺, zero⁻, half, one}
 use Rattle.floats.specs.Magnitude.{magnitude_of, max_of}
-use Rattle.loops.specs.Turns.{go, turns, up_to, down_to, tries, try_to, fold, every}
+use Rattle.loops.specs.Turns.{go, turns, up_to, down_to, tries, try_to}
 use Rattle.solver.specs.Lesser.{part_swapped, lesser_swapped, lesser_column, lesser_eliminated}
 use Rattle.solver.specs.Reasons.{some, no_pivot, not_finite, columns_from, if_finite, reasoned_of}
 use Rattle.solver.specs.Steps.{Sys, sys, scale_of, larger_row, pivot_of, swap_column, swapped, less_at, less_row, row_of, below_of, singular, column_of, eliminated_of, add_term, sum_of, back_at, back_of, all_finite, solution_of}

@@ -1,8 +1,10 @@
 -- What the promises of the private functions are said by.
-use Rattle.std.specs.Prelude.{ℕ, zero, suc, ◌+◌, ◌*◌, ◌<◌, List, ◌≡◌, Float}
-use Rattle.floats.specs.Magnitude.{magnitude_of}
+use Rattle.std.specs.Prelude.{ℕ, ◌+◌, ◌*◌, ◌<◌, true, cond, List, ◌≡◌, Float, is_ok}
+use Rattle.std.specs.Float.Ieee.{lt}
+use Rattle.floats.specs.Magnitude.{abs_of, magnitude_of}
 use Rattle.solver.specs.declared.pivot.Candidate.{Candidate}
-use Rattle.solver.specs.Reasons.{Reasoned, some, no_pivot}
+use Rattle.solver.specs.Promise.{Answered, found}
+use Rattle.solver.specs.Reasons.{Reasoned, some}
 use Rattle.solver.specs.Steps.{Sys, at}
 
 -- A candidate for the pivot of column col is one of the n rows, with its magnitude there.
@@ -10,7 +12,11 @@ pub record Sized (n col : ℕ) (a : List Float) (p : Candidate) : Type 0 where
   pub within : p.row < n
   pub size : p.size ≡ magnitude_of (at a (p.row * n + col))
 
--- what the loop over the columns has come to, which leaves its system in lent places: 0, or the column, counted from 1, without a pivot
-abbrev pub columns_in : ℕ → Sys → Reasoned Sys
-columns_in zero s = some s
-columns_in (suc col) s = no_pivot (suc col)
+-- what elimination answers where it is to come to x, and leaves in lent places, where every column had its pivot
+pub record Reaches (x : Reasoned Sys) (s : Sys) (r : Answered) : Type 0 where
+  pub answer : r ≡ found x
+  pub left : is_ok r ≡ true → some s ≡ x
+
+-- the larger of m and the magnitude of v, where m is no NaN
+abbrev pub larger_number : Float → Float → Float
+larger_number m v = cond (lt m (abs_of v)) (abs_of v) m

@@ -40,9 +40,13 @@ swapped n col piv (sys a b) = cond (eqb piv col) (sys a b) (sys (up_to n 0 (swap
 unfoldable pub less_at : ℕ → ℕ → ℕ → Float → ℕ → List Float → List Float
 less_at n col r f c a = set a (r * n + c) (at a (r * n + c) ⊖ f ⊗ at a (col * n + c))
 
--- the same on the part of the matrix that starts at row col, column col, from where row r is off further on
+-- the same on a list that starts at row col, column col, from where row r is off further on
 unfoldable pub less_past : ℕ → Float → ℕ → List Float → List Float
 less_past off f c s = set s (off + c) (at s (off + c) ⊖ f ⊗ at s c)
+
+-- and on row r apart, with row col beside it
+unfoldable pub less_by : List Float → Float → ℕ → List Float → List Float
+less_by v f i c = set c i (at c i ⊖ f ⊗ at v i)
 
 -- row r less f times row col, from the pivot column on, and the right side with it; with f zero, nothing
 unfoldable pub less_row : ℕ → ℕ → ℕ → Float → Sys → Sys

@@ -1,25 +1,28 @@
 // The rows below the pivot, each less its multiple of the pivot's row.
 ghost use Rattle.std.specs.Prelude.{◌≡◌, ◌+◌, ◌*◌, ◌≤◌, ◌<◌, length};
 ghost use Rattle.loops.specs.Turns.{up_to};
-ghost use Rattle.solver.specs.Steps.{sys, less_past, less_at, less_row, row_of, below_of};
+ghost use Rattle.solver.specs.Steps.{sys, less_by, less_at, less_row, row_of, below_of};
 
-// The places `off` past the first `len` ones, each less `f` times its fellow. `s` starts at the pivot column of the pivot's row.
-fn row_update(s: &mut [f64], len: usize, off: usize, f: f64)
-    requires { off + len ≤ length s.old }
-    ensures { s.new ≡ up_to len 0 (less_past off f) s.old }
+// Each number of the row less `f` times its fellow in the other one, as far as both go.
+pub fn row_update(row: &mut [f64], f: f64, other: &[f64])
+    ensures { row.new ≡ up_to (length other.now) 0 (less_by other.now f) row.old }
 {
-    for c in 0..len {
-        s[off + c] = s[off + c] - f * s[c];
+    let end = row.len().min(other.len());
+    // By index: what iter_mut writes no proof knows afterwards.
+    for i in 0..end {
+        row[i] -= f * other[i];
     }
 }
 
-// Row `r` less `f` times row `col`, on the part of the matrix from the pivot column of row `col` on.
+// Row `r` less `f` times row `col`, from the pivot column of row `col` on.
 fn less_part(a: &mut [f64], n: usize, col: usize, r: usize, f: f64)
     requires { ((col < r) × (r < n)) × (n * n ≤ length a.old) }
     ensures { a.new ≡ up_to n col (less_at n col r f) a.old }
 {
+    let len = n - col;
     let start = col * n + col;
-    row_update(&mut a[start..], n - col, (r - col) * n, f);
+    let (above, below) = a.split_at_mut(r * n + col);
+    row_update(&mut below[..len], f, &above[start..start + len]);
 }
 
 // Row `r` less `f` times row `col`, and the right side with it.
@@ -31,9 +34,10 @@ fn less_row(a: &mut [f64], b: &mut [f64], n: usize, col: usize, r: usize, f: f64
         return;
     }
     less_part(a, n, col, r, f);
-    b[r] = b[r] - f * b[col];
+    b[r] -= f * b[col];
 }
 
+#[tactic(auto, using(loops::proofs::Cells::cells))]
 fn clear_row(a: &mut [f64], b: &mut [f64], n: usize, col: usize, p: f64, r: usize)
     requires { ((col < r) × (r < n)) × ((n * n ≤ length a.old) × (n ≤ length b.old)) }
     ensures { sys a.new b.new ≡ row_of n col p r (sys a.old b.old) }
@@ -43,6 +47,7 @@ fn clear_row(a: &mut [f64], b: &mut [f64], n: usize, col: usize, p: f64, r: usiz
 }
 
 // Clears column `col` in every row after `col`.
+#[tactic(auto, using(loops::proofs::Cells::cells))]
 pub(crate) fn clear_below(a: &mut [f64], b: &mut [f64], n: usize, col: usize)
     requires { (col < n) × ((n * n ≤ length a.old) × (n ≤ length b.old)) }
     ensures { sys a.new b.new ≡ below_of n col (sys a.old b.old) }

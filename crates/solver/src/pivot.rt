@@ -1,33 +1,29 @@
 // The loop over the columns: the pivot, the exchange of two rows, and the rows below it.
-ghost use Rattle.std.specs.Prelude.{◌≡◌, ◌+◌, ◌*◌, ◌≤◌, ◌<◌, false, length};
-ghost use Rattle.std.specs.Float.Ieee.{is_nan};
-ghost use Rattle.loops.specs.Turns.{tried};
-ghost use Rattle.solver.specs.Inside.{Sized, columns_in};
+ghost use Rattle.std.specs.Prelude.{◌≡◌, ◌+◌, ◌*◌, ◌≤◌, ◌<◌, length};
+ghost use Rattle.solver.specs.Inside.{Reaches, Sized, larger_number};
 ghost use Rattle.solver.specs.Lesser.{part_swapped, lesser_swapped, lesser_column, lesser_eliminated};
-ghost use Rattle.solver.specs.Steps.{sys, larger_of, scale_of, larger_row, pivot_of};
+ghost use Rattle.solver.specs.Reasons.{some, or_no_pivot};
+ghost use Rattle.solver.specs.Steps.{sys, scale_of, larger_row, pivot_of};
 
-use crate::below;
+use crate::{Unsolved, below};
 
 // The largest magnitude, NaN skipped, at least 1e-300.
 fn scale(a: &[f64]) -> f64
     ensures { result ≡ scale_of a.now }
 {
-    let mut m = 0.0;
-    for i in 0..a.len() {
-        m = larger(m, a[i]);
-    }
-    floats::max(m, 1e-300)
+    floats::max(a.iter().fold(0.0, |m, v| larger(m, *v)), 1e-300)
 }
 
+// Where m is no NaN, that is the larger of m and the magnitude of v, and no NaN either: so no test for one is needed at the next turn.
 fn larger(m: f64, v: f64) -> f64
-    requires { is_nan m ≡ false }
-    ensures { (result ≡ larger_of m v) × (is_nan result ≡ false) }
+    ensures { result ≡ larger_number m v }
 {
     let a = floats::abs(v);
     if m < a { a } else { m }
 }
 
 // The row from `col` on with the largest magnitude in column `col`, the lowest one on ties.
+#[tactic(auto, using(loops::proofs::Cells::cells))]
 fn pivot_row(a: &[f64], n: usize, col: usize) -> usize
     requires { (col < n) × (n * n ≤ length a.now) }
     ensures { (result ≡ pivot_of n col a.now) × (result < n) }
@@ -49,6 +45,7 @@ struct Candidate {
     size: u64,
 }
 
+#[tactic(auto, using(loops::proofs::Cells::cells))]
 fn larger_row(a: &[f64], n: usize, col: usize, q: usize, p: Candidate) -> Candidate
     requires { ((q < n) × ((col < n) × (n * n ≤ length a.now))) × Sized n col a.now p }
     ensures { (result.row ≡ larger_row n col a.now q p.row) × Sized n col a.now result }
@@ -63,6 +60,7 @@ fn larger_row(a: &[f64], n: usize, col: usize, q: usize, p: Candidate) -> Candid
 
 // The rows `piv` and `col` from column `col` on: left of it neither is read again. Written out, since `floats::swap` tests its places at
 // every turn.
+#[tactic(auto, using(loops::proofs::Cells::cells))]
 fn swap_rows(a: &mut [f64], n: usize, col: usize, piv: usize)
     requires { ((piv < n) × (col < n)) × (n * n ≤ length a.old) }
     ensures { a.new ≡ part_swapped n col piv a.old }
@@ -88,30 +86,29 @@ fn swap_in(a: &mut [f64], b: &mut [f64], n: usize, col: usize, piv: usize)
     floats::swap(b, piv, col);
 }
 
-// Clears column `col` below its pivot; false where there is no pivot, and then nothing is said of what is left.
-fn column(a: &mut [f64], b: &mut [f64], n: usize, scale: f64, col: usize) -> bool
+// Clears column `col` below its pivot; where there is none, nothing is said of what is left.
+#[tactic(auto, using(loops::proofs::Cells::cells))]
+fn column(a: &mut [f64], b: &mut [f64], n: usize, scale: f64, col: usize) -> Result<(), Unsolved>
     requires { (col < n) × ((n * n ≤ length a.old) × (n ≤ length b.old)) }
-    ensures { tried result (sys a.new b.new) ≡ lesser_column n scale col (sys a.old b.old) }
+    ensures { Reaches (or_no_pivot (lesser_column n scale col (sys a.old b.old)) col some) (sys a.new b.new) result }
 {
     let piv = pivot_row(a, n, col);
     if floats::abs(a[piv * n + col]) <= scale * 1e-15 {
-        return false;
+        return Err(Unsolved::NoPivot(col + 1));
     }
     swap_in(a, b, n, col, piv);
     below::clear_below(a, b, n, col);
-    true
+    Ok(())
 }
 
-// Brings the matrix to upper triangular form: 0, or the column, counted from 1, that has no pivot.
-pub(crate) fn eliminate(a: &mut [f64], b: &mut [f64], n: usize) -> usize
+// Brings the matrix to upper triangular form.
+pub(crate) fn eliminate(a: &mut [f64], b: &mut [f64], n: usize) -> Result<(), Unsolved>
     requires { (n * n ≤ length a.old) × (n ≤ length b.old) }
-    ensures { columns_in result (sys a.new b.new) ≡ lesser_eliminated n (sys a.old b.old) }
+    ensures { Reaches (lesser_eliminated n (sys a.old b.old)) (sys a.new b.new) result }
 {
     let s = scale(a);
     for col in 0..n {
-        if !column(a, b, n, s, col) {
-            return col + 1;
-        }
+        column(a, b, n, s, col)?;
     }
-    0
+    Ok(())
 }

@@ -1,9 +1,14 @@
 -- The digits of a number: the last one and those in front of it, and how many there are. Assumes nothing.
-use Prim.Native.Nat.{ℕ, zero, suc, ◌+◌, ◌/◌, ◌%◌, ◌^◌, ◌≤◌, ◌<◌}
+use Prim.Native.Nat.{ℕ, zero, suc, ◌+◌, ◌*◌, ◌/◌, ◌%◌, ◌^◌, ◌≤◌, ◌<◌}
 use mathlib.Core.Bool.{Bool, true, false, cond}
-use mathlib.Core.List.{[], ◌∷◌, ◌++◌}
+use mathlib.Core.List.{List, [], ◌∷◌, ◌++◌}
 use mathlib.Core.Path.{◌≡◌, refl, ap}
+use native.Mathlib.Decide.{dec_le}
+use native.Mathlib.Numerals.{add-one}
 use native.Mathlib.Omega.{arith}
+use Rattle.std.proofs.Common.{Some, None}
+use Rattle.std.proofs.Math.Nat.{pow-le-pow_right}
+use Rattle.spelling.specs.Floating.{hex_at, digits_at}
 use borrow.Author.Tests.{lt-ltb, le-ltb}
 use lib.Dec.{ltb}
 use lib.ListN.{length, length-append}
@@ -43,3 +48,31 @@ pub hexadecimal-long : (k b : ℕ) → length (hexadecimal k b) ≡ k
 unfolding hexadecimal
 hexadecimal-long zero b = refl
 hexadecimal-long (suc k) b = simp length-append (omega (arith, hexadecimal-long k (b / 16)))
+
+-- where so many digits are not there, no more are
+pub no-digits : (j : ℕ) (s : List ℕ) (at k : ℕ) → k ≤ j → digits_at k s at ≡ None → digits_at j s at ≡ None
+unfolding digits_at
+no-digits zero s at k h e = let z : k ≡ 0 = omega arith in rw z at e
+no-digits (suc j) s at k h e = go (dec_le k j) (no-digits j s at k)
+  where
+    go : Dec (k ≤ j) → (k ≤ j → digits_at k s at ≡ None → digits_at j s at ≡ None) → digits_at (suc j) s at ≡ None
+    go (yes p) f = rw (f p e)
+    go (no p) f = let z : k ≡ suc j = omega arith in rw z at e
+
+module _ (k : ℕ) (s : List ℕ) (at b n : ℕ) (e : digits_at k s at ≡ Some (b, n)) where
+  -- a digit more, and where there is none
+  pub digit-more : (d m : ℕ) → hex_at s n ≡ Some (d, m) → digits_at (k + 1) s at ≡ Some (16 * b + d, m)
+  unfolding digits_at
+  digit-more d m h = rw (add-one, e, h)
+
+  pub digit-not : k < 16 → hex_at s n ≡ None → digits_at 16 s at ≡ None
+  unfolding digits_at
+  digit-not l h = no-digits 16 s at (suc k) (omega arith) (rw (e, h))
+
+-- so many digits fit
+pub digits-fit : (k b d : ℕ) → k < 16 → b < 16 ^ k → d < 16 → (16 * b + d < 2 ^ 64) × (16 * b + d < 16 ^ (k + 1))
+digits-fit k b d l h p =
+    let o : zero < 16 = omega arith in
+    let g : suc k ≤ 16 = omega arith in
+    let w : 16 ^ suc k ≤ 16 ^ 16 = pow-le-pow_right o g in
+    (omega arith, rw add-one (omega arith))

@@ -1,118 +1,107 @@
 -- What it is to stand at a place of a text, and what a byte and a word do there.
---     Here s c t                    c is a good place of the text s, and t is what is left of s there
---     further-, eat-, word-forward    where the byte or the word comes next, the place after it is a good one
---     further-, eat-, word-backward   where the place after it is a good one, the byte or the word came next
---     further-, eat-, word_keeps      a spoilt place stays spoilt
+--     Here s at t                    at is a place of the text s, and t is what is left of s there
+--     byte-, eat-, word-forward      where the byte or the word comes next, it is read, and the place after it
+--     byte-, eat-, word-backward     where it is read, it came next
+--     bound                          a chain of readings that gives something, step by step
 -- Assumes nothing.
-use Prim.Native.Nat.{ℕ, suc, ◌+◌, ◌-◌, ◌≤◌, ◌<◌}
+use Prim.Native.Nat.{ℕ, zero, suc, ◌+◌, ◌-◌, ◌≤◌, ◌<◌}
 use mathlib.Core.Bool.{Bool, true, false, cond}
 use mathlib.Core.List.{List, [], ◌∷◌, ◌++◌}
 use mathlib.Core.Path.{◌≡◌, refl, sym, ap, ap₂, subst, ◌∙◌}
-use native.Mathlib.Nat.{add-zero}
 use native.Mathlib.Numerals.{add-one}
 use native.Mathlib.Omega.{arith}
-use borrow.Author.Tests.{lt-ltb, le-ltb, eq-eqb, eqb-true}
-use lib.Dec.{T, ltb, eqb}
-use lib.ListN.{length, get_or, drop, length-drop}
-use lib.Seq.{drop-cons, get_or-drop}
-use Rattle.loops.specs.Turns.{fold}
-use Rattle.spelling.specs.Places.{byte_at, spoilt_of, further_of, eat_of}
-use Rattle.spelling.specs.declared.Cursor.{Cursor}
+use borrow.Author.Tests.{eq-eqb, eqb-true}
+use lib.Dec.{T, eqb}
+use lib.ListN.{length, drop, length-drop}
+use lib.Seq.{drop-cons, drop-nil}
+use Rattle.std.proofs.Common.{Option, Some, None, slice_get, if◌then◌else◌}
+use Rattle.spelling.specs.Places.{◌>>=◌, eat_of, word_of}
 
-pub record Here (s : List ℕ) (c : Cursor) (t : List ℕ) : Type 0 where
-  pub good : c.ok ≡ true
-  pub within : c.at ≤ length s
-  pub rest : drop c.at s ≡ t
+pub record Here (s : List ℕ) (at : ℕ) (t : List ℕ) : Type 0 where
+  pub within : at ≤ length s
+  pub rest : drop at s ≡ t
+
+pub begin : (s : List ℕ) → Here s 0 s
+begin s = record { within = omega arith; rest = refl }
 
 -- no test has both answers
 pub never : (b : Bool) → b ≡ false → b ≡ true → ⊥
 never b p q = subst T (sym q ∙ p) tt
 
-module _ (s : List ℕ) (c : Cursor) where
-  there-more : (x : ℕ) (t : List ℕ) → Here s c (x ∷ t) → c.at < length s
+pub some-is : {A : Type 0} {x y : A} → Some x ≡ Some y → x ≡ y
+some-is h = cc
+
+pub not-both : {A : Type 0} {x : A} → None ≡ Some x → ⊥
+not-both h = cc
+
+pub bound : {A B : Type 0} (o : Option A) (f : A → Option B) (b : B) → (o >>= f) ≡ Some b → (a : A) × (o ≡ Some a) × (f a ≡ Some b)
+bound None f b h = absurd (not-both h)
+bound (Some a) f b h = (a, refl, h)
+
+first-of : (s : List ℕ) (at : ℕ) → slice_get s at ≡ slice_get (drop at s) 0
+first-of [] at = ap (λ (l : List ℕ). slice_get l 0) (sym (drop-nil at))
+first-of (x ∷ s) zero = refl
+first-of (x ∷ s) (suc at) = first-of s at
+
+module _ (s : List ℕ) (at : ℕ) where
+  there-more : (x : ℕ) (t : List ℕ) → Here s at (x ∷ t) → at < length s
   there-more x t h =
-      let e : length s - c.at ≡ suc (length t) = sym (length-drop c.at s) ∙ ap length h.rest in
+      let e : length s - at ≡ suc (length t) = sym (length-drop at s) ∙ ap length h.rest in
       omega arith
 
-  at-end : Here s c [] → length s ≤ c.at
-  at-end h =
-      let e : length s - c.at ≡ 0 = sym (length-drop c.at s) ∙ ap length h.rest in
-      omega arith
+  pub byte-forward : (x : ℕ) (t : List ℕ) → Here s at (x ∷ t) → (slice_get s at ≡ Some x) × Here s (at + 1) t
+  byte-forward x t h =
+      let l : at < length s = there-more x t h in
+      let e = sym (drop-cons s at 0 l) ∙ h.rest in
+      (first-of s at ∙ ap (λ l. slice_get l 0) h.rest, record { within = omega arith; rest = rw add-one (cc) })
 
-  -- the byte there
-  pub byte-here : (x : ℕ) (t : List ℕ) → Here s c (x ∷ t) → byte_at s c ≡ x
-  byte-here x t h =
-      let e : get_or (drop c.at s) 0 0 ≡ x = ap (λ l. get_or l 0 0) h.rest in
-      let g : get_or (drop c.at s) 0 0 ≡ get_or s c.at 0 = get_or-drop c.at s 0 0 ∙ ap (λ i. get_or s i 0) (add-zero c.at) in
-      rw h.good (sym g ∙ e)
+  pub byte-backward : (x : ℕ) (t : List ℕ) → Here s at t → slice_get s at ≡ Some x → (u : List ℕ) × (t ≡ x ∷ u) × Here s (at + 1) u
+  byte-backward x [] h k = absurd (not-both (sym (first-of s at ∙ ap (λ l. slice_get l 0) h.rest) ∙ k))
+  byte-backward x (y ∷ u) h k =
+      let f = byte-forward y u h in
+      (u, ap (λ z. z ∷ u) (some-is (sym f.0 ∙ k)), f.1)
 
-  further-is : c.at < length s → further_of s c ≡ record { at = c.at + 1; ok = c.ok }
-  unfolding further_of
-  further-is h = rw (lt-ltb _ _ h)
-
-  further-not : length s ≤ c.at → further_of s c ≡ spoilt_of c
-  unfolding further_of
-  further-not h = rw (le-ltb _ _ h)
-
-  pub further-forward : (x : ℕ) (t : List ℕ) → Here s c (x ∷ t) → Here s (further_of s c) t
-  further-forward x t h =
-      let l : c.at < length s = there-more x t h in
-      let e : get_or s c.at 0 ∷ drop (suc c.at) s ≡ x ∷ t = sym (drop-cons s c.at 0 l) ∙ h.rest in
-      rw (further-is l) (record { good = h.good; within = omega arith; rest = rw add-one (cc) })
-
-  pub further-backward : (t : List ℕ) → Here s c t → (further_of s c).ok ≡ true → (u : List ℕ) × (t ≡ byte_at s c ∷ u) × Here s (further_of s c) u
-  further-backward [] h k = absurd (never _ (ap (λ r. r.ok) (further-not (at-end h))) k)
-  further-backward (x ∷ t) h k = (t, ap (λ y. y ∷ t) (sym (byte-here x t h)), further-forward x t h)
-
-  pub further-keeps : (further_of s c).ok ≡ true → c.ok ≡ true
-  unfolding further_of
-  further-keeps = go (ltb c.at (length s))
-    where
-      go : (b : Bool) → (cond b (record { at = c.at + 1; ok = c.ok }) (spoilt_of c)).ok ≡ true → c.ok ≡ true
-      go true k = k
-      go false k = absurd (never _ refl k)
+  -- nothing stands at the end
+  pub byte-end : Here s at [] → slice_get s at ≡ None
+  byte-end h = first-of s at ∙ ap (λ l. slice_get l 0) h.rest
 
   module _ (b : ℕ) where
-    eat-is : byte_at s c ≡ b → eat_of s c b ≡ further_of s c
+    pub eat-forward : (t : List ℕ) → Here s at (b ∷ t) → (eat_of s at b ≡ Some (at + 1)) × Here s (at + 1) t
     unfolding eat_of
-    eat-is e = rw (eq-eqb _ _ e)
+    eat-forward t h = let f = byte-forward b t h in (rw (f.0, eq-eqb b b refl), f.1)
 
-    -- what a byte that was eaten says
-    eat-found : (eat_of s c b).ok ≡ true → (byte_at s c ≡ b) × ((further_of s c).ok ≡ true)
-    unfolding eat_of
-    eat-found = go (eqb (byte_at s c) b) refl
+    eaten : (x n : ℕ) → (if eqb x b then Some (at + 1) else None) ≡ Some n → (x ≡ b) × (at + 1 ≡ n)
+    eaten x n = go (eqb x b) refl
       where
-        go : (q : Bool) → eqb (byte_at s c) b ≡ q → (cond q (further_of s c) (spoilt_of c)).ok ≡ true → (byte_at s c ≡ b) × ((further_of s c).ok ≡ true)
-        go true e k = (eqb-true _ _ e, k)
-        go false e k = absurd (never _ refl k)
+        go : (q : Bool) → eqb x b ≡ q → (if q then Some (at + 1) else None) ≡ Some n → (x ≡ b) × (at + 1 ≡ n)
+        go true e k = (eqb-true x b e, some-is k)
+        go false e k = absurd (not-both k)
 
-    eat-keeps : (eat_of s c b).ok ≡ true → c.ok ≡ true
-    eat-keeps k = further-keeps (eat-found k).1
-
-    eat-forward : (t : List ℕ) → Here s c (b ∷ t) → Here s (eat_of s c b) t
-    eat-forward t h = rw (eat-is (byte-here b t h)) (further-forward b t h)
-
-    eat-backward : (t : List ℕ) → Here s c t → (eat_of s c b).ok ≡ true → (u : List ℕ) × (t ≡ b ∷ u) × Here s (eat_of s c b) u
-    eat-backward t h k =
-        let f = eat-found k in
-        let g = further-backward t h f.1 in
-        (g.0, g.1 ∙ ap (λ y. y ∷ g.0) f.0, rw (eat-is f.0) g.2)
+    pub eat-backward : (n : ℕ) (t : List ℕ) → Here s at t → eat_of s at b ≡ Some n → (u : List ℕ) × (t ≡ b ∷ u) × Here s n u
+    unfolding eat_of
+    eat-backward n t h k =
+        let f = bound (slice_get s at) _ _ k in
+        let g = eaten f.0 n f.2 in
+        let r = byte-backward f.0 t h f.1 in
+        (r.0, r.1 ∙ ap (λ y. y ∷ r.0) g.0, subst (λ (m : ℕ). Here s m r.0) g.1 r.2)
 
 -- Words: past one, the bytes of which have to stand there.
 module _ (s : List ℕ) where
-  pub word_keeps : (w : List ℕ) (c : Cursor) → (fold (eat_of s) c w).ok ≡ true → c.ok ≡ true
-  word_keeps [] c k = k
-  word_keeps (b ∷ w) c k = eat-keeps s c b (word_keeps w (eat_of s c b) k)
+  pub word-forward : (w : List ℕ) (at : ℕ) (t : List ℕ) → Here s at (w ++ t) → (n : ℕ) × (word_of s at w ≡ Some n) × Here s n t
+  unfolding word_of
+  word-forward [] at t h = (at, refl, h)
+  word-forward (b ∷ w) at t h =
+      let f = eat-forward s at b (w ++ t) h in
+      let g = word-forward w (at + 1) t f.1 in
+      (g.0, rw f.0 g.1, g.2)
 
-  pub word-forward : (w : List ℕ) (c : Cursor) (t : List ℕ) → Here s c (w ++ t) → Here s (fold (eat_of s) c w) t
-  word-forward [] c t h = h
-  word-forward (b ∷ w) c t h = word-forward w (eat_of s c b) t (eat-forward s c b (w ++ t) h)
-
-  pub word-backward : (w : List ℕ) (c : Cursor) (t : List ℕ) → Here s c t → (fold (eat_of s) c w).ok ≡ true → (u : List ℕ) × (t ≡ w ++ u) × Here s (fold (eat_of s) c w) u
-  word-backward [] c t h k = (t, refl, h)
-  word-backward (b ∷ w) c t h k =
-      let f = eat-backward s c b t h (word_keeps w (eat_of s c b) k) in
-      let g = word-backward w (eat_of s c b) f.0 f.2 k in
+  pub word-backward : (w : List ℕ) (at n : ℕ) (t : List ℕ) → Here s at t → word_of s at w ≡ Some n → (u : List ℕ) × (t ≡ w ++ u) × Here s n u
+  unfolding word_of
+  word-backward [] at n t h k = (t, refl, subst (λ (m : ℕ). Here s m t) (some-is k) h)
+  word-backward (b ∷ w) at n t h k =
+      let e = bound (eat_of s at b) _ _ k in
+      let f = eat-backward s at b e.0 t h e.1 in
+      let g = word-backward w e.0 n f.0 f.2 e.2 in
       (g.0, f.1 ∙ ap (λ y. b ∷ y) g.1, g.2)
 
 -- whether a text begins with a word
@@ -120,6 +109,10 @@ abbrev pub starts : List ℕ → List ℕ → Bool
 starts [] t = true
 starts (b ∷ w) [] = false
 starts (b ∷ w) (x ∷ t) = cond (eqb x b) (starts w t) false
+
+pub with-starts : (w u : List ℕ) → starts w (w ++ u) ≡ true
+with-starts [] u = refl
+with-starts (b ∷ w) u = rw (eq-eqb b b refl) (with-starts w u)
 
 starts_with : (w t : List ℕ) → starts w t ≡ true → (u : List ℕ) × (t ≡ w ++ u)
 starts_with [] t h = (t, refl)
@@ -130,15 +123,16 @@ starts_with (b ∷ w) (x ∷ t) h = go (eqb x b) refl (starts_with w t) h
     go true e f k = let g = f k in (g.0, ap₂ {C = List ℕ} (λ y l. y ∷ l) (eqb-true x b e) g.1)
     go false e f k = absurd (never _ refl k)
 
-with-starts : (w u : List ℕ) → starts w (w ++ u) ≡ true
-with-starts [] u = refl
-with-starts (b ∷ w) u = rw (eq-eqb b b refl) (with-starts w u)
+-- a word that a text begins with is read, and no other
+pub word-there : (s w : List ℕ) (at : ℕ) (t : List ℕ) → Here s at t → starts w t ≡ true → (n : ℕ) × (word_of s at w ≡ Some n)
+word-there s w at t h k =
+    let g = starts_with w t k in
+    let f = word-forward s w at g.0 (subst (λ (l : List ℕ). Here s at l) g.1 h) in
+    (f.0, f.1)
 
-pub word-starts : (s w : List ℕ) (c : Cursor) (t : List ℕ) → Here s c t → (fold (eat_of s) c w).ok ≡ starts w t
-word-starts s w c t h = go (starts w t) refl (fold (eat_of s) c w).ok refl
+pub no-word : (s w : List ℕ) (at : ℕ) (t : List ℕ) → Here s at t → starts w t ≡ false → word_of s at w ≡ None
+no-word s w at t h k = go (word_of s at w) refl
   where
-    go : (q : Bool) → starts w t ≡ q → (r : Bool) → (fold (eat_of s) c w).ok ≡ r → r ≡ q
-    go true e true f = refl
-    go true e false f = let g = starts_with w t e in sym f ∙ (word-forward s w c g.0 (subst (λ (l : List ℕ). Here s c l) g.1 h)).good
-    go false e true f = let g = word-backward s w c t h f in sym (sym e ∙ ap (starts w) g.1 ∙ with-starts w g.0)
-    go false e false f = refl
+    go : (o : Option ℕ) → word_of s at w ≡ o → o ≡ None
+    go None e = refl
+    go (Some n) e = let g = word-backward s w at n t h e in absurd (never _ (sym (ap (starts w) g.1) ∙ k) (with-starts w g.0))

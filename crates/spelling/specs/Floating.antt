@@ -1,28 +1,33 @@
 -- Floats: sixteen small hexadecimal digits, the bits of a binary64 from the first digit down.
-use Rattle.std.specs.Prelude.{cond, ◌&&◌, List, ℕ, ◌+◌, ◌*◌, ◌-◌, ltb, leb}
+use Rattle.std.specs.Prelude.{◌&&◌, List, ℕ, zero, suc, ◌+◌, ◌*◌, ◌-◌, leb, Float, Option, Some, None, slice_get, if◌then◌else◌}
 use Rattle.std.specs.Float.{binary64}
 use Rattle.std.specs.Float.Ieee.{of_bits}
-use Rattle.loops.specs.Turns.{up_to}
-use Rattle.spelling.specs.Places.{byte_at, further_of, spoilt_of}
-use Rattle.spelling.specs.declared.BitsRead.{BitsRead}
-use Rattle.spelling.specs.declared.Cursor.{Cursor}
-use Rattle.spelling.specs.declared.FloatRead.{FloatRead}
+use Rattle.spelling.specs.Places.{Read, ◌>>=◌}
 
--- what a digit stands for, 0 to 9 being the bytes 48 to 57 and 10 to 15 the bytes 97 to 102; 16 for any other byte
-unfoldable pub hex_of : ℕ → ℕ
-hex_of b = cond (ltb b 48) 16 (cond (leb b 57) (b - 48) (cond (ltb b 97) 16 (cond (leb b 102) (b - 97 + 10) 16)))
+-- what a digit stands for, 0 to 9 being the bytes 48 to 57 and 10 to 15 the bytes 97 to 102
+unfoldable pub hex_of : ℕ → Option ℕ
+hex_of b = if leb 48 b && leb b 57 then Some (b - 48) else if leb 97 b && leb b 102 then Some (b - 97 + 10) else None
 
--- one digit more, which has to be there
-unfoldable pub next_hex : List ℕ → BitsRead → BitsRead
-next_hex s f =
-    let d = hex_of (byte_at s f.next) in
-    cond (ltb d 16 && ltb f.bits 0x1000_0000_0000_0000)
-    (record { bits = 16 * f.bits + d; next = further_of s f.next })
-    (record { bits = 0; next = spoilt_of f.next })
+-- the digit that stands there
+unfoldable pub hex_at : List ℕ → ℕ → Read ℕ
+hex_at s at = do
+  b ← slice_get s at
+  d ← hex_of b
+  Some (d, at + 1)
 
-abbrev pub bits_at : List ℕ → Cursor → BitsRead
-bits_at s c = up_to 16 0 (λ i. next_hex s) (record { bits = 0; next = c })
+-- so many digits
+unfoldable pub digits_at : ℕ → List ℕ → ℕ → Read ℕ
+digits_at zero s at = Some (0, at)
+digits_at (suc k) s at = do
+  b ← digits_at k s at
+  d ← hex_at s b.1
+  Some (16 * b.0 + d.0, d.1)
+
+abbrev pub bits_at : List ℕ → ℕ → Read ℕ
+bits_at = digits_at 16
 
 -- the float that stands there: the one definition of a float in a text
-abbrev pub float_at : List ℕ → Cursor → FloatRead
-float_at s c = let f = bits_at s c in record { value = of_bits binary64 f.bits; next = f.next }
+unfoldable pub float_at : List ℕ → ℕ → Read Float
+float_at s at = do
+  b ← bits_at s at
+  Some (of_bits binary64 b.0, b.1)

@@ -1,23 +1,31 @@
 -- Whole numbers: one to five decimal digits, and no zero in front of others.
-use Rattle.std.specs.Prelude.{cond, ◌&&◌, List, ℕ, ◌+◌, ◌*◌, ◌-◌, ltb, leb}
-use Rattle.spelling.specs.Places.{byte_at, further_of, spoilt_of}
-use Rattle.spelling.specs.declared.Cursor.{Cursor}
-use Rattle.spelling.specs.declared.WholeRead.{WholeRead}
+use Rattle.std.specs.Prelude.{◌&&◌, List, ℕ, zero, suc, ◌+◌, ◌*◌, ◌-◌, leb, Option, Some, None, slice_get, if◌then◌else◌}
+use Rattle.spelling.specs.Places.{Read, ◌>>=◌}
 
--- what a digit stands for, 0 to 9 being the bytes 48 to 57; 10 for any other byte
-unfoldable pub digit_of : ℕ → ℕ
-digit_of b = cond (ltb b 48) 10 (cond (leb b 57) (b - 48) 10)
+-- what a digit stands for, 0 to 9 being the bytes 48 to 57
+unfoldable pub digit_of : ℕ → Option ℕ
+digit_of b = if leb 48 b && leb b 57 then Some (b - 48) else None
 
-unfoldable pub first_digit_of : List ℕ → Cursor → WholeRead
-first_digit_of s c =
-    let d = digit_of (byte_at s c) in
-    cond (ltb d 10) (record { value = d; next = further_of s c }) (record { value = 0; next = spoilt_of c })
+-- the digit that stands there
+unfoldable pub digit_at : List ℕ → ℕ → Read ℕ
+digit_at s at = do
+  b ← slice_get s at
+  d ← digit_of b
+  Some (d, at + 1)
 
 -- one digit more, where one stands there; nothing goes on from 0, nor from five digits
-unfoldable pub more_of : List ℕ → WholeRead → WholeRead
-more_of s n =
-    let d = digit_of (byte_at s n.next) in
-    cond (ltb d 10 && leb 1 n.value && leb n.value 9999) (record { value = 10 * n.value + d; next = further_of s n.next }) n
+abbrev pub longer : ℕ × ℕ → Read ℕ → ℕ × ℕ
+longer n None = n
+longer n (Some d) = if leb 1 n.0 && leb n.0 9999 then (10 * n.0 + d.0, d.1) else n
 
-abbrev pub whole_at : List ℕ → Cursor → WholeRead
-whole_at s c = more_of s (more_of s (more_of s (more_of s (first_digit_of s c))))
+unfoldable pub more_of : List ℕ → ℕ × ℕ → ℕ × ℕ
+more_of s n = longer n (digit_at s n.1)
+
+unfoldable pub more_digits : ℕ → List ℕ → ℕ × ℕ → ℕ × ℕ
+more_digits zero s n = n
+more_digits (suc k) s n = more_of s (more_digits k s n)
+
+unfoldable pub whole_at : List ℕ → ℕ → Read ℕ
+whole_at s at = do
+  d ← digit_at s at
+  Some (more_digits 4 s d)

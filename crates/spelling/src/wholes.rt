@@ -1,64 +1,47 @@
 // Whole numbers: one to five digits, and no zero in front of others.
-ghost use Rattle.std.specs.Prelude.{◌≡◌};
-ghost use Rattle.spelling.specs.Wholes.{digit_of, first_digit_of, more_of, whole_at};
+ghost use Rattle.std.specs.Prelude.{◌≡◌, ◌<◌, IfSome};
+ghost use Rattle.spelling.specs.Wholes.{digit_of, digit_at, more_of, whole_at};
 
-use crate::places::{byte, further, spoilt};
-use crate::{Cursor, WholeRead};
-
-// What a decimal digit stands for; 10 for any other byte.
-fn digit(b: u8) -> usize
-    ensures { result ≡ digit_of b }
+// What a decimal digit stands for.
+#[tactic(auto, unfolding(crate::specs::Wholes::digit_of))]
+fn digit_of(b: u8) -> Option<usize>
+    ensures value { result ≡ digit_of b }
+    ensures small { IfSome result (λ d. d < 10) }
 {
-    if b < b'0' {
-        10
-    } else if b <= b'9' {
-        (b - b'0') as usize
-    } else {
-        10
+    match b {
+        b'0'..=b'9' => Some(usize::from(b - b'0')),
+        _ => None,
     }
 }
 
-// The first digit, which has to be there.
-fn first_digit(s: &[u8], c: Cursor) -> WholeRead
-    ensures { result ≡ first_digit_of s.now c }
+// The digit that stands there.
+#[tactic(auto, unfolding(crate::specs::Wholes::digit_at))]
+fn digit(s: &[u8], at: usize) -> Option<(usize, usize)>
+    ensures value { result ≡ digit_at s.now at }
+    ensures small { IfSome result (λ r. r.0 < 10) }
 {
-    let d = digit(byte(s, c));
-    if d < 10 {
-        WholeRead {
-            value: d,
-            next: further(s, c),
-        }
-    } else {
-        WholeRead {
-            value: 0,
-            next: spoilt(c),
-        }
-    }
+    Some((digit_of(*s.get(at)?)?, at + 1))
 }
 
 // One digit more, where one stands there. Nothing goes on from 0, nor from five digits.
-fn more_digits(s: &[u8], n: WholeRead) -> WholeRead
-    ensures { result ≡ more_of s.now n }
+#[tactic(auto, unfolding(crate::specs::Wholes::more_of))]
+fn more(s: &[u8], value: usize, at: usize) -> (usize, usize)
+    ensures { result ≡ more_of s.now (value, at) }
 {
-    let next = n.next;
-    let value = n.value;
-    let d = digit(byte(s, next));
-    if (d < 10) & (1 <= value) & (value <= 9999) {
-        WholeRead {
-            value: 10 * value + d,
-            next: further(s, next),
-        }
-    } else {
-        n
+    match digit(s, at) {
+        Some((d, next)) if (1 <= value) & (value <= 9999) => (10 * value + d, next),
+        _ => (value, at),
     }
 }
 
-pub fn whole(s: &[u8], c: Cursor) -> WholeRead
-    ensures { result ≡ whole_at s.now c }
+// A whole number, and the place after it.
+#[tactic(auto, unfolding(crate::specs::Wholes::whole_at))]
+pub fn whole(s: &[u8], at: usize) -> Option<(usize, usize)>
+    ensures { result ≡ whole_at s.now at }
 {
-    let one = first_digit(s, c);
-    let two = more_digits(s, one);
-    let three = more_digits(s, two);
-    let four = more_digits(s, three);
-    more_digits(s, four)
+    let mut n = digit(s, at)?;
+    for _i in 0..4usize {
+        n = more(s, n.0, n.1);
+    }
+    Some(n)
 }

@@ -33,15 +33,6 @@ module _ (rows n r : ℕ) (m w₁ w₂ : List Float) (fit : rows * n ≤ length 
   spans : (out y : List Float) → y ≡ laid_basis n r (take (r * n) w₂) ++ drop ((n - r) * n) out → y ≡ vectors_of rows n m ++ drop ((n - r) * n) out
   spans out y e = e ∙ ap (λ l. l ++ drop ((n - r) * n) out) basis-is
 
-pub overflow_mul-kept : goal.overflow_mul-kept
-overflow_mul-kept c = omega (arith, kept_in _ _ _ (length c.args.work.now) c.decompose-rank.ensures.bounded c.requires.1.0)
-
-pub slice_bounds-vectors-end : goal.slice_bounds-vectors-end
-slice_bounds-vectors-end c = kept_in _ _ _ _ c.decompose-rank.ensures.bounded (search rules)
-
-pub slice_bounds-vectors-end-2 : goal.slice_bounds-vectors-end-2
-slice_bounds-vectors-end-2 c = front _ _ (kept_in _ _ _ _ c.decompose-rank.ensures.bounded (search rules))
-
 pub vectors-requires : goal.vectors-requires
 vectors-requires c = let k = kept_in _ _ _ (length c.decompose-rank.new.w) c.decompose-rank.ensures.bounded (search rules) in
     ((omega (arith, c.decompose-rank.ensures.bounded), search rules), rw (← front _ _ k) (le_refl _))

@@ -1,34 +1,26 @@
 -- Assumes nothing.
-use mathlib.Core.Path.{refl}
+use mathlib.Core.Path.{refl, ap}
 use native.Mathlib.Omega.{arith}
 use borrow.Author.Rules.{rules}
+use lib.ListN.{length}
 use Rattle.loops.proofs.Turning.{up_to-done}
 use Rattle.groups.specs.Parents.{join_all, joined}
-use Rattle.groups.specs.Touches.{touches_in}
-use Rattle.groups.proofs.Filled.{row_at}
-use Rattle.groups.proofs.Laws.{join-turn, join_all-falls}
+use Rattle.groups.specs.Touches.{touched_by}
+use Rattle.groups.proofs.Named.{join-turn}
 use Rattle.groups.proofs.sweeps.join_equations.Goals as goal
 
-pub loop-k-init : goal.loop-k-init
+pub loop-a-init : goal.loop-a-init
 unfolding joined
-loop-k-init c = (search rules, c.requires.0, search rules, refl)
+loop-a-init c = refl
 
-pub join_all-requires : goal.join_all-requires
-join_all-requires c = c.loop-k.invariant.1
-
-pub loop-k-preserved : goal.loop-k-preserved
-loop-k-preserved c =
-    let a = c.args in
-    let l = c.loop-k in
-    let join-all = c.join_all in (
-      search rules,
-      join_all-falls _ l.p _ l.invariant.1 join-all.ensures,
-      search rules,
-      join-turn (touches_in a.ts) a.n l.k _ (search rules) (row_at a.ts l.k _ (omega arith)) l.p _ _ join-all.ensures l.invariant.3,
-    )
+pub loop-a-preserved : goal.loop-a-preserved
+loop-a-preserved c =
+    let l = c.loop-a in
+    join-turn c.args.b.now _ l.a-index _ _ _ c.equations-a-items.ensures (search rules) c.points.ensures c.involved-t.ensures l.p.above
+    _ _ c.join_all.ensures l.invariant
 
 pub returns : goal.returns
 returns c =
-    let a = c.args in
-    let l = c.loop-k in
-    up_to-done (λ k. join_all (touches_in a.ts k)) a.n l.k l.p _ (omega arith) l.invariant.3
+    let l = c.loop-a in
+    up_to-done (λ k. join_all (touched_by c.args.b.now k)) _ l.a-index l.p.above _
+    (omega (arith, ap length c.equations-a-items.ensures)) l.invariant

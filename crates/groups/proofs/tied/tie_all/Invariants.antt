@@ -1,10 +1,10 @@
-use Prim.Native.Nat.{◌≤◌}
+use mathlib.Core.List.{map}
 use mathlib.Core.Path.{◌≡◌}
-use lib.ListN.{length, drop}
+use lib.ListN.{drop}
 use Rattle.loops.specs.Turns.{fold}
 use Rattle.groups.specs.Tied.{tie_to, tie_all}
-use Rattle.groups.specs.Touches.{numbers_of}
+use Rattle.groups.specs.Touches.{number}
 use Rattle.groups.proofs.tied.tie_all.Given as goal
 
-abbrev pub invariant-loop-j : goal.invariant-loop-j
-invariant-loop-j l = (length l.s ≡ length l.initial.s) × (l.j ≤ l.n) × (fold tie_to l.s (drop l.j (numbers_of l.t)) ≡ tie_all (numbers_of l.t) l.initial.s)
+abbrev pub invariant-loop-q : goal.invariant-loop-q
+invariant-loop-q l = fold tie_to l.s (map number (drop l.q-index l.points)) ≡ tie_all (map number l.points) l.initial.s

@@ -1,13 +1,25 @@
--- The row says of each equation what the build does, and goes as far. Assumes nothing.
-use mathlib.Core.Path.{◌≡◌}
+-- Assumes nothing.
+use mathlib.Core.Path.{refl, ap}
+use native.Mathlib.Omega.{arith}
+use borrow.Author.Rules.{rules}
 use lib.ListN.{length}
-use Rattle.groups.proofs.Filled.{row_is, row_count}
+use Rattle.loops.proofs.Turning.{up_to-done}
+use Rattle.groups.specs.Tied.{tie_all, tied_in}
+use Rattle.groups.specs.Touches.{touched_by}
+use Rattle.groups.proofs.Named.{tie-turn}
 use Rattle.groups.proofs.tied.tied_points.Goals as goal
+
+pub loop-a-init : goal.loop-a-init
+unfolding tied_in
+loop-a-init c = refl
+
+pub loop-a-preserved : goal.loop-a-preserved
+loop-a-preserved c =
+    let l = c.loop-a in
+    tie-turn c.args.b.now _ l.a-index _ _ _ c.equations-a-items.ensures (search rules) c.points.ensures c.involved-t.ensures l.s _ _
+    c.tie_all.ensures l.invariant
 
 pub returns : goal.returns
 returns c =
-    let b = c.args.b in
-    let m = c.smaller-n.ensures in
-    let sized : length b.equations ≡ 40 = c.well_formed.0.1.1.1.1.1.1.1.1.0.1.0.1 in
-    rw (← row_is b.equations b.equation_count _ sized m b.lines _ c.all_touched.ensures, ← row_count b.equations b.equation_count _ sized m)
-    c.tie_equations.ensures
+    let l = c.loop-a in
+    up_to-done (λ k. tie_all (touched_by c.args.b.now k)) _ l.a-index l.s _ (omega (arith, ap length c.equations-a-items.ensures)) l.invariant

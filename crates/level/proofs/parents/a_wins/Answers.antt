@@ -1,36 +1,32 @@
--- Assumes nothing.
-use Prim.Native.Nat.{ℕ}
-use mathlib.Core.Bool.{Bool, true, false, beq}
+-- The order of pairs, as the definition says it. Assumes nothing.
+use Prim.Native.Nat.{ℕ, ◌<◌}
+use mathlib.Core.Bool.{Bool, true, false}
 use mathlib.Core.Path.{◌≡◌, refl}
+use native.Mathlib.Decide.{ℕ_discrete, dec_lt}
+use native.Mathlib.Omega.{arith}
+use borrow.Author.Tests.{lt-ltb, le-ltb, eq-eqb, ne_eqb}
 use lib.Dec.{ltb}
+use Rattle.std.specs.Ordering.{is_gt, nat_cmp, bool_cmp, partial_gt, partial_ordering_then}
+use Rattle.std.specs.Prelude.{Some}
 use Rattle.level.specs.Parents.{greater, a_wins}
 use Rattle.level.proofs.parents.a_wins.Goals as goal
 
--- where the two are alike, and where they are not
-alike : (f g : Bool) (n m : ℕ) → beq f g ≡ true → ltb m n ≡ greater f n g m
-alike true true n m h = refl
-alike true false n m h = cc
-alike false true n m h = cc
-alike false false n m h = refl
+above : (n m : ℕ) → is_gt (nat_cmp n m) ≡ ltb m n
+above n m = go (dec_lt n m) (ℕ_discrete n m)
+  where
+    go : Dec (n < m) → Dec (n ≡ m) → is_gt (nat_cmp n m) ≡ ltb m n
+    go (yes h) d = rw (lt-ltb n m h, le-ltb m n (omega arith))
+    go (no h) (yes e) = rw (le-ltb n m (omega arith), eq-eqb n m e, le-ltb m n (omega arith))
+    go (no h) (no e) = rw (le-ltb n m (omega arith), ne_eqb n m e, lt-ltb m n (omega arith))
 
-unlike : (f g : Bool) (n m : ℕ) → beq f g ≡ false → f ≡ greater f n g m
-unlike true true n m h = cc
-unlike true false n m h = refl
-unlike false true n m h = refl
-unlike false false n m h = cc
+wins : (f g : Bool) (n m : ℕ)
+    → partial_gt {X = Bool × ℕ} (λ x y. partial_ordering_then (Some (bool_cmp x.0 y.0)) (Some (nat_cmp x.1 y.1))) (f, n) (g, m) ≡ greater f n g m
+wins true true n m = above n m
+wins true false n m = refl
+wins false true n m = refl
+wins false false n m = above n m
 
-pub returns-then-fa-fb : goal.returns-then-fa-fb
+pub returns : goal.returns
 unfolding a_wins
-returns-then-fa-fb c =
-    let a = c.args in
-    let fa = c.fixed_at-fa in
-    let fb = c.fixed_at-fb in
-    rw (← fa.ensures, ← fb.ensures) (alike fa.result fb.result a.rb a.ra c.if-fa-fb.true)
-
-pub returns-else-fa-fb : goal.returns-else-fa-fb
-unfolding a_wins
-returns-else-fa-fb c =
-    let a = c.args in
-    let fa = c.fixed_at-fa in
-    let fb = c.fixed_at-fb in
-    rw (← fa.ensures, ← fb.ensures) (unlike fa.result fb.result a.rb a.ra c.if-fa-fb.false)
+returns c =
+    rw (c.gt.ensures, c.get_or-fa.ensures, c.get_or-fb.ensures) (wins _ _ c.args.rb c.args.ra)

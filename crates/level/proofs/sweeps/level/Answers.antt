@@ -5,14 +5,14 @@ use Rattle.loops.proofs.Turning.{up_to-next, up_to-done}
 use Rattle.level.specs.Level.{level_of}
 use Rattle.level.proofs.sweeps.level.Goals as goal
 
-pub loop-axis-init : goal.loop-axis-init
+pub loop-number-init : goal.loop-number-init
 unfolding level_of
-loop-axis-init c = (search rules, refl, rw c.fixed_points-fixed.ensures)
+loop-number-init c = refl
 
-pub loop-axis-preserved : goal.loop-axis-preserved
-loop-axis-preserved c =
-    let l = c.loop-axis in
-    (search rules, search rules, up_to-next _ 2 l.axis l.points _ _ (search rules) c.level_axis.ensures l.invariant.2)
+pub loop-number-preserved : goal.loop-number-preserved
+loop-number-preserved c =
+    let l = c.loop-number in
+    up_to-next _ 2 l.number l.points _ _ (search rules) (rw c.fixed_points-fixed.ensures at c.level.ensures) l.invariant
 
 pub returns : goal.returns
-returns c = let l = c.loop-axis in up_to-done _ 2 l.axis l.points _ (search rules) l.invariant.2
+returns c = let l = c.loop-number in up_to-done _ 2 l.number l.points _ (search rules) l.invariant

@@ -1,23 +1,27 @@
 -- Assumes nothing.
+use native.Mathlib.Omega.{arith}
 use borrow.Author.Rules.{rules}
-use Rattle.members.proofs.Heads.{pushed_start, pushed-count}
-use Rattle.members.proofs.Pushes.{holding-next, holding-done}
+use Rattle.members.proofs.Heads.{pushed_start}
+use Rattle.members.proofs.Pushes.{holding-yes, holding-no, holding-done}
 use Rattle.members.proofs.lists.holding.Goals as goal
+use Rattle.members.proofs.lists.holding.Goals.{then-h-g, else-h-g}
 
 pub loop-i-init : goal.loop-i-init
-loop-i-init c = (search rules, rw c.none-r.ensures (search rules), pushed_start _ _ c.none-r.ensures)
+loop-i-init c = (rw c.none-r.ensures (search rules), pushed_start _ _ c.none-r.ensures)
 
 pub loop-i-preserved : goal.loop-i-preserved
 loop-i-preserved c =
-    let a = c.args in
-    let l = c.loop-i in (
-      search rules,
-      pushed-count _ l.i l.i l.r c.pushed-r.result (search rules) c.pushed-r.ensures,
-      holding-next a.of a.g l.i l.r c.pushed-r.result _ (search rules) (search rules) c.pushed-r.ensures l.invariant.2,
-    )
+    let of = c.args.of.now in
+    let l = c.loop-i in
+    elim c.if-h-g.branch [
+      | then-h-g w ↦ rw w.r-is (
+        rw w.push.ensures (omega arith),
+        holding-yes of c.args.g l.i _ l.r _ _ (search rules) w.if-h-g.true (omega arith) w.push.ensures l.invariant.1,
+      )
+      | else-h-g w ↦ rw w.r-is (omega arith, holding-no of c.args.g l.i _ l.r _ (search rules) w.if-h-g.false l.invariant.1)
+    ]
 
 pub returns : goal.returns
 returns c =
-    let a = c.args in
     let l = c.loop-i in
-    holding-done a.of a.g l.i l.r _ (search rules) (search rules) l.invariant.2
+    holding-done c.args.of.now c.args.g l.i 0 l.r _ (search rules) (omega arith) l.invariant.1

@@ -5,4 +5,4 @@ use Rattle.members.proofs.Heads.{Pushed}
 use Rattle.members.proofs.lists.holding.Given as goal
 
 abbrev pub invariant-loop-i : goal.invariant-loop-i
-invariant-loop-i l = (l.i ≤ 40) × (l.r.count ≤ l.i) × (Pushed l.r (places_from l.i (drop l.i l.of) l.g) (places_from 0 l.of l.g))
+invariant-loop-i l = (l.r.count ≤ l.i) × Pushed l.r (places_from l.i (drop l.i l.of) l.g) (places_from 0 l.of l.g)

@@ -1,7 +1,6 @@
 -- Assumes nothing.
 use mathlib.Core.Path.{refl}
 use borrow.Author.Rules.{rules}
-use Rattle.loops.proofs.Cells.{cells}
 use Rattle.loops.proofs.Turning.{up_to-next, up_to-done}
 use Rattle.normal.specs.Normal.{add_on_diagonal, damped_of}
 use Rattle.normal.proofs.diagonal.add_on_diagonal.Goals as goal
@@ -9,30 +8,6 @@ use Rattle.normal.proofs.diagonal.add_on_diagonal.Goals as goal
 pub loop-i-init : goal.loop-i-init
 unfolding damped_of
 loop-i-init c = (search rules, refl, refl)
-
-pub overflow_mul-w : goal.overflow_mul-w
-overflow_mul-w c = search (cells, rules)
-
-pub overflow_add-w : goal.overflow_add-w
-overflow_add-w c = search (cells, rules)
-
-pub offset_bounds-w-i : goal.offset_bounds-w-i
-offset_bounds-w-i c = search (cells, rules)
-
-pub bounds-w-i : goal.bounds-w-i
-bounds-w-i c = search (cells, rules)
-
-pub overflow_mul-w-in-loop-i : goal.overflow_mul-w-in-loop-i
-overflow_mul-w-in-loop-i c = search (cells, rules)
-
-pub overflow_add-w-in-loop-i : goal.overflow_add-w-in-loop-i
-overflow_add-w-in-loop-i c = search (cells, rules)
-
-pub offset_bounds-w-i-in-loop-i : goal.offset_bounds-w-i-in-loop-i
-offset_bounds-w-i-in-loop-i c = search (cells, rules)
-
-pub bounds-w-i-in-loop-i : goal.bounds-w-i-in-loop-i
-bounds-w-i-in-loop-i c = search (cells, rules)
 
 pub loop-i-preserved : goal.loop-i-preserved
 unfolding add_on_diagonal

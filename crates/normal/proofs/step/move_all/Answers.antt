@@ -1,7 +1,6 @@
 -- Assumes nothing.
 use mathlib.Core.Path.{refl}
 use borrow.Author.Rules.{rules}
-use Rattle.loops.proofs.Cells.{cells}
 use Rattle.loops.proofs.Turning.{up_to-next, up_to-done}
 use Rattle.normal.specs.Normal.{moved_of}
 use Rattle.normal.proofs.step.move_all.Goals as goal
@@ -9,9 +8,6 @@ use Rattle.normal.proofs.step.move_all.Goals as goal
 pub loop-c-init : goal.loop-c-init
 unfolding moved_of
 loop-c-init c = (search rules, refl, refl)
-
-pub overflow_step-c : goal.overflow_step-c
-overflow_step-c c = search (cells, rules)
 
 pub loop-c-preserved : goal.loop-c-preserved
 loop-c-preserved c =

@@ -30,21 +30,6 @@ loop-r-init c = (search rules, search rules, from-unit _ _ _ _ c.args.e.now _ c.
 pub row_start-start-requires : goal.row_start-start-requires
 row_start-start-requires c = cell_row c.args.rank c.args.n (c.loop-r.r - 1) _ (omega arith) c.requires.1
 
-pub overflow_add-end : goal.overflow_add-end
-overflow_add-end c = omega (arith, cell_row c.args.rank c.args.n (c.loop-r.r - 1) _ (omega arith) c.requires.1, c.row_start-start.ensures)
-
-pub offset_bounds-v-start : goal.offset_bounds-v-start
-offset_bounds-v-start c = omega (arith, cell_row c.args.rank c.args.n (c.loop-r.r - 1) _ (omega arith) c.requires.1, c.row_start-start.ensures)
-
-pub slice_bounds-reflect-count : goal.slice_bounds-reflect-count
-slice_bounds-reflect-count c = omega (arith, cell_row c.args.rank c.args.n (c.loop-r.r - 1) _ (omega arith) c.requires.1, c.row_start-start.ensures)
-
-pub slice_bounds-reflect-start : goal.slice_bounds-reflect-start
-slice_bounds-reflect-start c = omega (arith, cell_row c.args.rank c.args.n (c.loop-r.r - 1) _ (omega arith) c.requires.1, c.row_start-start.ensures)
-
-pub slice_bounds-reflect-end : goal.slice_bounds-reflect-end
-slice_bounds-reflect-end c = omega (arith, cell_row c.args.rank c.args.n (c.loop-r.r - 1) _ (omega arith) c.requires.1, c.row_start-start.ensures)
-
 pub reflect-requires : goal.reflect-requires
 reflect-requires c = (part_length c.row_start-start.result c.args.n _ (omega (arith, cell_row c.args.rank c.args.n (c.loop-r.r - 1) _ (omega arith) c.requires.1, c.row_start-start.ensures)), search rules)
 

@@ -7,6 +7,3 @@ use Rattle.nullspace.proofs.basis.reflected.Given as goal
 
 abbrev pub invariant-loop-r : goal.invariant-loop-r
 invariant-loop-r l = (l.r ≤ l.rank) × (length l.e ≡ l.n) × (down_to l.r (reflect_by_row l.n l.v) l.e ≡ laid_vector l.n l.rank l.v l.j)
-
-abbrev pub decreases-loop-r : goal.decreases-loop-r
-decreases-loop-r l = l.r

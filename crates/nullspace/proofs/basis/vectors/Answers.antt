@@ -52,24 +52,6 @@ pub loop-j-init : goal.loop-j-init
 unfolding laid_basis
 loop-j-init c = ((search rules, search rules), refl, rw none, refl)
 
-pub overflow_mul-start : goal.overflow_mul-start
-overflow_mul-start c = omega (arith, cell_row c.args.n c.args.n (c.loop-j.j - c.args.rank) (c.args.n * c.args.n) (search rules) (le_refl (c.args.n * c.args.n)))
-
-pub overflow_add-end : goal.overflow_add-end
-overflow_add-end c = omega (arith, cell_row c.args.n c.args.n (c.loop-j.j - c.args.rank) (c.args.n * c.args.n) (search rules) (le_refl (c.args.n * c.args.n)))
-
-pub offset_bounds-out-start : goal.offset_bounds-out-start
-offset_bounds-out-start c = omega (arith, cell_row c.args.n c.args.n (c.loop-j.j - c.args.rank) (c.args.n * c.args.n) (search rules) (le_refl (c.args.n * c.args.n)))
-
-pub slice_bounds-vector-count : goal.slice_bounds-vector-count
-slice_bounds-vector-count c = omega (arith, cell_row c.args.n c.args.n (c.loop-j.j - c.args.rank) (c.args.n * c.args.n) (search rules) (le_refl (c.args.n * c.args.n)))
-
-pub slice_bounds-vector-start : goal.slice_bounds-vector-start
-slice_bounds-vector-start c = omega (arith, cell_row c.args.n c.args.n (c.loop-j.j - c.args.rank) (c.args.n * c.args.n) (search rules) (le_refl (c.args.n * c.args.n)))
-
-pub slice_bounds-vector-end : goal.slice_bounds-vector-end
-slice_bounds-vector-end c = omega (arith, cell_row c.args.n c.args.n (c.loop-j.j - c.args.rank) (c.args.n * c.args.n) (search rules) (le_refl (c.args.n * c.args.n)))
-
 pub vector-requires : goal.vector-requires
 vector-requires c = ((part_length ((c.loop-j.j - c.args.rank) * c.args.n) c.args.n c.loop-j.out (omega (arith, cell_row c.args.n c.args.n (c.loop-j.j - c.args.rank) (c.args.n * c.args.n) (search rules) (le_refl (c.args.n * c.args.n)))), search rules), search rules)
 

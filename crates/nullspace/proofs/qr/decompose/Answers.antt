@@ -1,6 +1,6 @@
 -- Row k on is lent to the turn of k; what lies before it, the reflectors, stays. Assumes nothing.
 use Prim.Native.Nat.{ℕ, ◌+◌, ◌-◌, ◌*◌, ◌≤◌}
-use mathlib.Core.Bool.{true, false}
+use mathlib.Core.Bool.{Bool, true, false, cond}
 use mathlib.Core.List.{List, ◌++◌}
 use mathlib.Core.Path.{◌≡◌, refl, sym, ap, ◌∙◌}
 use native.Mathlib.Nat.{le_refl, le_antisymm}
@@ -9,12 +9,11 @@ use lib.ListN.{length, take, drop, length-drop}
 use lib.Seq.{length-take-le, take_at}
 use lib.Ieee.{Float}
 use borrow.Author.Rules.{rules}
-use borrow.Author.Tests.{not-true, not-false}
+use Rattle.std.specs.Prelude.{Option, Some, None, is_some}
 use Rattle.loops.proofs.Turning.{while_to-next, while_to-stop, while_to-done}
 use Rattle.loops.proofs.Cells.{cell_row}
 use Rattle.loops.proofs.Parts.{tail-part, past-tail}
-use Rattle.nullspace.specs.declared.qr.Step.{Step}
-use Rattle.nullspace.specs.Layout.{Turned, laid_out, laid_on, laid, laid_rank, laid_reflectors, laid_turn}
+use Rattle.nullspace.specs.Layout.{Turned, laid_out, laid_on, laid, laid_rank, laid_reflectors, laid_turn, first_norm_of, turns-on}
 use Rattle.nullspace.proofs.qr.decompose.Goals as goal
 
 rest-fits : (rows n k l : ℕ) → k ≤ rows → rows * n ≤ l → (rows - k) * n ≤ l - k * n
@@ -22,53 +21,54 @@ rest-fits rows n k l h t =
     let e : rows ≡ k + (rows - k) = omega arith in
     omega (arith, ap (λ x. x * n) e)
 
-module _ (rows n k : ℕ) (first : Float) (w t : List Float) (r : Step) (e : Turned n (rows - k) k first (take (length w - k * n) (drop (k * n) w)) t r) where
+module _ (rows n k : ℕ) (first : Float) (w t : List Float) (r : Option Float) (e : Turned n (rows - k) k first (take (length w - k * n) (drop (k * n) w)) t r) where
   told : Turned n (rows - k) k first (drop (k * n) w) t r
   told = rw tail-part at e
 
-  goes : r.on ≡ true → laid_on rows n k (laid k first w) ≡ true
+  on : (x : Float) → r ≡ Some x → (laid_on rows n k (laid k first w) ≡ true) × (x ≡ first_norm_of n (rows - k) k first (drop (k * n) w))
   unfolding laid_on
-  goes o = sym told.on ∙ o
+  on x q = by (turns-on n (rows - k) k first (drop (k * n) w)) refl (sym q ∙ told.next)
+    where
+      by : (b : Bool) → turns-on n (rows - k) k first (drop (k * n) w) ≡ b → Some x ≡ cond b (Some (first_norm_of n (rows - k) k first (drop (k * n) w))) None
+          → (turns-on n (rows - k) k first (drop (k * n) w) ≡ true) × (x ≡ first_norm_of n (rows - k) k first (drop (k * n) w))
+      by true h p = (h, cc)
+      by false h p = (cc, cc)
 
-  stops : r.on ≡ false → laid_on rows n k (laid k first w) ≡ false
+  stops : r ≡ None → laid_on rows n k (laid k first w) ≡ false
   unfolding laid_on
-  stops o = sym told.on ∙ o
+  stops q = by (turns-on n (rows - k) k first (drop (k * n) w)) (sym q ∙ told.next)
+    where
+      by : (b : Bool) → None ≡ cond b (Some (first_norm_of n (rows - k) k first (drop (k * n) w))) None → b ≡ false
+      by true p = cc
+      by false p = refl
 
-  next : r.on ≡ true → laid (k + 1) r.first (take (k * n) w ++ (t ++ drop (length w - k * n) (drop (k * n) w))) ≡ laid_turn rows n k (laid k first w)
+  next : (x : Float) → r ≡ Some x → laid (k + 1) x (take (k * n) w ++ (t ++ drop (length w - k * n) (drop (k * n) w))) ≡ laid_turn rows n k (laid k first w)
   unfolding laid_turn
-  next o = rw (past-tail w t (k * n), told.next, told.left o)
+  next x q = rw (past-tail w t (k * n), (on x q).1, told.left (ap is_some q))
 
 kept : (w t : List Float) (k : ℕ) → k ≤ length w → take k (take k w ++ t) ≡ take k w
 kept w t k h = take_at (take k w) t k (length-take-le k w h)
 
 pub loop-k-init : goal.loop-k-init
 unfolding laid_out
-loop-k-init c = ((search rules, c.smaller-last.ensures), refl, rw c.smaller-last.ensures)
+loop-k-init c = ((search rules, c.min-last.ensures), refl, rw c.min-last.ensures)
 
-pub overflow_mul-start : goal.overflow_mul-start
-overflow_mul-start c = omega (arith, cell_row c.args.rows c.args.n c.loop-k.k (c.args.rows * c.args.n) (search rules) (le_refl (c.args.rows * c.args.n)))
+pub turn-requires : goal.turn-requires
+turn-requires c = ((search rules, search rules), rw (tail-part, length-drop) (rest-fits _ _ _ _ (search rules) (search rules)))
 
-pub offset_bounds-w-start : goal.offset_bounds-w-start
-offset_bounds-w-start c = omega (arith, cell_row c.args.rows c.args.n c.loop-k.k (c.args.rows * c.args.n) (search rules) (le_refl (c.args.rows * c.args.n)))
-
-pub slice_bounds-turn-count : goal.slice_bounds-turn-count
-slice_bounds-turn-count c = omega (arith, cell_row c.args.rows c.args.n c.loop-k.k (c.args.rows * c.args.n) (search rules) (le_refl (c.args.rows * c.args.n)))
-
-pub slice_bounds-turn-start : goal.slice_bounds-turn-start
-slice_bounds-turn-start c = omega (arith, cell_row c.args.rows c.args.n c.loop-k.k (c.args.rows * c.args.n) (search rules) (le_refl (c.args.rows * c.args.n)))
-
-pub slice_bounds-turn-end : goal.slice_bounds-turn-end
-slice_bounds-turn-end c = omega (arith, cell_row c.args.rows c.args.n c.loop-k.k (c.args.rows * c.args.n) (search rules) (le_refl (c.args.rows * c.args.n)))
-
-pub turn-t-requires : goal.turn-t-requires
-turn-t-requires c = ((search rules, search rules), rw (tail-part, length-drop) (rest-fits _ _ _ _ (search rules) (search rules)))
-
-pub returns-then-not-t : goal.returns-then-not-t
-returns-then-not-t c = let e = while_to-stop _ _ _ _ _ _ c.loop-k-test.true (stops c.args.rows c.args.n c.loop-k.k c.loop-k.first c.loop-k.w c.turn-t.new.t c.turn-t.result c.turn-t.ensures (not-true _ c.if-not-t.true)) c.loop-k.invariant.2 in
+pub returns-in-None : goal.returns-in-None
+returns-in-None c = let e = while_to-stop _ _ _ _ _ _ c.loop-k-test.true (stops c.args.rows c.args.n c.loop-k.k c.loop-k.first c.loop-k.w c.turn.new.t c.turn.result c.turn.ensures c.in-None.is) c.loop-k.invariant.2 in
     record { bounded = search rules; rank = ap laid_rank e; reflectors = kept c.loop-k.w _ (c.loop-k.k * c.args.n) (omega (arith, cell_row c.args.rows c.args.n c.loop-k.k (c.args.rows * c.args.n) (search rules) (le_refl (c.args.rows * c.args.n)))) ∙ ap (laid_reflectors c.args.n) e }
 
 pub loop-k-preserved : goal.loop-k-preserved
-loop-k-preserved c = ((search rules, c.loop-k.invariant.0.1), search rules, while_to-next _ _ _ _ _ _ _ c.loop-k-test.true (goes c.args.rows c.args.n c.loop-k.k c.loop-k.first c.loop-k.w c.turn-t.new.t c.turn-t.result c.turn-t.ensures (not-false _ c.if-not-t.false)) (next c.args.rows c.args.n c.loop-k.k c.loop-k.first c.loop-k.w c.turn-t.new.t c.turn-t.result c.turn-t.ensures (not-false _ c.if-not-t.false)) c.loop-k.invariant.2)
+loop-k-preserved c = (
+  (search rules, c.loop-k.invariant.0.1),
+  search rules,
+  while_to-next _ _ _ _ _ _ _ c.loop-k-test.true
+      (on c.args.rows c.args.n c.loop-k.k c.loop-k.first c.loop-k.w c.turn.new.t c.turn.result c.turn.ensures c.in-Some.norm c.in-Some.is).0
+      (next c.args.rows c.args.n c.loop-k.k c.loop-k.first c.loop-k.w c.turn.new.t c.turn.result c.turn.ensures c.in-Some.norm c.in-Some.is)
+      c.loop-k.invariant.2,
+)
 
 pub returns : goal.returns
 returns c = let e = while_to-done _ _ _ _ _ _ c.loop-k-test.false c.loop-k.invariant.2 in

@@ -6,7 +6,6 @@ use lib.Seq.{length-take-le}
 use lib.Ieee.{Float}
 use Rattle.floats.specs.Ops.{zero⁺}
 use Rattle.loops.specs.Turns.{up_to}
-use Rattle.loops.proofs.Parts.{front}
 use Rattle.nullspace.specs.Steps.{away}
 use Rattle.nullspace.specs.Layout.{reflector_at, swap_head}
 use borrow.Author.Rules.{rules}
@@ -17,8 +16,5 @@ made : (n k row : ℕ) (norm : Float) (t t₁ z y : List Float) → k ≤ length
 unfolding reflector_at
 made n k row norm t t₁ z y h s q e = rw (e, q, length-take-le k t₁ h, s)
 
-pub slice_bounds-clear-end-2 : goal.slice_bounds-clear-end-2
-slice_bounds-clear-end-2 c = front _ _ (search rules)
-
 pub returns : goal.returns
-returns c = made _ _ _ _ _ c.swap_head.new.t c.clear.new.s _ (search rules) c.swap_head.ensures c.clear.ensures c.push_away.ensures
+returns c = made _ _ _ _ _ c.swap_head.new.t c.fill.new.self _ (search rules) c.swap_head.ensures (c.fill.ensures.after (λ y h. h)) c.push_away.ensures

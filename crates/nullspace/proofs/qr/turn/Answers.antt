@@ -1,19 +1,20 @@
 -- A turn ends at the norm, or at `vv`, or goes on; in each case by the longest column that was found. Assumes nothing.
 use Prim.Native.Nat.{ℕ}
-use mathlib.Core.Bool.{Bool, true, false, cond, false≢true}
+use mathlib.Core.Bool.{Bool, true, false, cond}
 use mathlib.Core.List.{List}
-use mathlib.Core.Path.{◌≡◌, ap, ◌∙◌}
-use native.Mathlib.Nat.{mul-le-mul_right}
+use mathlib.Core.Path.{◌≡◌, refl, ap, ◌∙◌}
 use native.Mathlib.Omega.{arith}
+use borrow.Author.Tests.{eq-eqb, ne_eqb}
 use lib.Dec.{eqb}
 use lib.ListN.{take}
 use lib.Ieee.{Float, eq}
+use Rattle.std.specs.Prelude.{Some, None}
 use Rattle.floats.specs.Ops.{zero⁺}
 use Rattle.solver.specs.Sums.{norm2_of}
-use Rattle.loops.proofs.Parts.{front}
+use Rattle.loops.proofs.Picks.{pick_yes, pick_no}
 use Rattle.loops.proofs.Cells.{cell_row}
 use Rattle.nullspace.specs.Steps.{ended}
-use Rattle.nullspace.specs.Layout.{begun, first_norm_of, largest_norm, longest_of, norm_at, reflected_by, reflector_at, turned, turns-on}
+use Rattle.nullspace.specs.Layout.{Turned, begun, first_norm_of, largest_norm, longest_of, norm_at, reflected_by, reflector_at, turned, turns-on}
 use borrow.Author.Rules.{rules}
 use Rattle.nullspace.proofs.qr.turn.Goals as goal
 
@@ -47,20 +48,25 @@ module _ (n m k : ℕ) (first norm : Float) (t : List Float) (row : ℕ) (found 
     unfolding turned
     left y q = rw (← begun-is, ← square) q
 
+    goes-on : (y : List Float) → y ≡ reflected_by n m vv t₁ → eq vv zero⁺ ≡ false → (x : Float) → x ≡ cond (eqb k 0) norm first → Turned n m k first t y (Some x)
+    goes-on y q z x e = record { next = rw (← on z) (ap Some (next-is x e)); left = λ o. left y q }
+
+stopped : (n m k : ℕ) (first : Float) (t y : List Float) → false ≡ turns-on n m k first t → Turned n m k first t y None
+stopped n m k first t y e = record { next = rw (← e) refl; left = λ o. cc }
+
 pub returns-then-is_ended : goal.returns-then-is_ended
-returns-then-is_ended c = let e = c.longest-best.ensures in record { on = early _ _ _ _ _ _ _ e.0 e.1.norm _ c.is_ended.ensures c.if-is_ended.true; next = next-is _ _ _ _ _ _ _ e.0 e.1.norm _ c.first_norm-next.ensures; left = λ o. absurd (false≢true o) }
+returns-then-is_ended c = let e = c.longest-best.ensures in stopped _ _ _ _ _ _ (early _ _ _ _ _ _ _ e.0 e.1.norm _ c.is_ended.ensures c.if-is_ended.true)
 
 pub make_reflector-requires : goal.make_reflector-requires
 make_reflector-requires c = (search rules, omega (arith, cell_row _ _ _ _ c.longest-best.ensures.1.within c.requires.1))
 
-pub slice_bounds-norm2-end : goal.slice_bounds-norm2-end
-slice_bounds-norm2-end c = omega (arith, mul-le-mul_right c.args.n c.requires.0.1, c.make_reflector.auto.t)
-
-pub slice_bounds-norm2-end-2 : goal.slice_bounds-norm2-end-2
-slice_bounds-norm2-end-2 c = front _ _ (omega (arith, mul-le-mul_right c.args.n c.requires.0.1, c.make_reflector.auto.t))
-
 pub returns-then-vv : goal.returns-then-vv
-returns-then-vv c = let e = c.longest-best.ensures in record { on = late _ _ _ _ _ _ _ e.0 e.1.norm _ c.is_ended.ensures c.if-is_ended.false _ c.make_reflector.ensures _ c.norm2-vv.ensures c.if-vv.true; next = next-is _ _ _ _ _ _ _ e.0 e.1.norm _ c.first_norm-next.ensures; left = λ o. absurd (false≢true o) }
+returns-then-vv c = let e = c.longest-best.ensures in stopped _ _ _ _ _ _ (late _ _ _ _ _ _ _ e.0 e.1.norm _ c.is_ended.ensures c.if-is_ended.false _ c.make_reflector.ensures _ c.norm2-vv.ensures c.if-vv.true)
 
-pub returns : goal.returns
-returns c = let e = c.longest-best.ensures in record { on = on _ _ _ _ _ _ _ e.0 e.1.norm _ c.is_ended.ensures c.if-is_ended.false _ c.make_reflector.ensures _ c.norm2-vv.ensures c.if-vv.false; next = next-is _ _ _ _ _ _ _ e.0 e.1.norm _ c.first_norm-next.ensures; left = λ o. left _ _ _ _ _ _ _ e.0 e.1.norm _ c.is_ended.ensures c.if-is_ended.false _ c.make_reflector.ensures _ c.norm2-vv.ensures _ c.reflect_rows.ensures }
+pub returns-then-k-eq0 : goal.returns-then-k-eq0
+returns-then-k-eq0 c = let e = c.longest-best.ensures in
+    goes-on _ _ _ _ _ _ _ e.0 e.1.norm _ c.is_ended.ensures c.if-is_ended.false _ c.make_reflector.ensures _ c.norm2-vv.ensures _ c.reflect_rows.ensures c.if-vv.false _ (pick_yes _ _ _ _ (eq-eqb _ _ c.if-k-eq0.true) refl)
+
+pub returns-else-k-eq0 : goal.returns-else-k-eq0
+returns-else-k-eq0 c = let e = c.longest-best.ensures in
+    goes-on _ _ _ _ _ _ _ e.0 e.1.norm _ c.is_ended.ensures c.if-is_ended.false _ c.make_reflector.ensures _ c.norm2-vv.ensures _ c.reflect_rows.ensures c.if-vv.false _ (pick_no _ _ _ _ (ne_eqb _ _ c.if-k-eq0.false) refl)

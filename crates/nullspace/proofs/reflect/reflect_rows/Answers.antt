@@ -11,7 +11,7 @@ unfolding reflected_by
 loop-j-init c = (refl, refl)
 
 pub reflect_row-requires : goal.reflect_row-requires
-reflect_row-requires c = omega (arith, cell_row _ _ _ _ c.loop-j-test.true c.requires)
+reflect_row-requires c = (omega arith, omega (arith, cell_row _ _ _ _ c.loop-j-test.true c.requires))
 
 pub loop-j-preserved : goal.loop-j-preserved
 loop-j-preserved c = (search rules, search (up_to-next, rules))

@@ -32,36 +32,6 @@ pub loop-i-init : goal.loop-i-init
 unfolding unit_rows
 loop-i-init c = (search rules, refl, rw zero-mul)
 
-pub overflow_mul-start : goal.overflow_mul-start
-overflow_mul-start c = omega (arith, cell_row _ _ _ _ c.loop-i-test.true (le_refl (c.args.rows * c.args.n)))
-
-pub overflow_add-end : goal.overflow_add-end
-overflow_add-end c = omega (arith, cell_row _ _ _ _ c.loop-i-test.true (le_refl (c.args.rows * c.args.n)))
-
-pub offset_bounds-m-start : goal.offset_bounds-m-start
-offset_bounds-m-start c = omega (arith, cell_row _ _ _ _ c.loop-i-test.true (le_refl (c.args.rows * c.args.n)))
-
-pub slice_bounds-unit_row-count : goal.slice_bounds-unit_row-count
-slice_bounds-unit_row-count c = omega (arith, cell_row _ _ _ _ c.loop-i-test.true (le_refl (c.args.rows * c.args.n)))
-
-pub slice_bounds-unit_row-start : goal.slice_bounds-unit_row-start
-slice_bounds-unit_row-start c = omega (arith, cell_row _ _ _ _ c.loop-i-test.true (le_refl (c.args.rows * c.args.n)))
-
-pub slice_bounds-unit_row-end : goal.slice_bounds-unit_row-end
-slice_bounds-unit_row-end c = omega (arith, cell_row _ _ _ _ c.loop-i-test.true (le_refl (c.args.rows * c.args.n)))
-
-pub offset_bounds-w-start : goal.offset_bounds-w-start
-offset_bounds-w-start c = omega (arith, cell_row _ _ _ _ c.loop-i-test.true (le_refl (c.args.rows * c.args.n)))
-
-pub slice_bounds-unit_row-count-in-loop-i : goal.slice_bounds-unit_row-count-in-loop-i
-slice_bounds-unit_row-count-in-loop-i c = omega (arith, cell_row _ _ _ _ c.loop-i-test.true (le_refl (c.args.rows * c.args.n)))
-
-pub slice_bounds-unit_row-start-in-loop-i : goal.slice_bounds-unit_row-start-in-loop-i
-slice_bounds-unit_row-start-in-loop-i c = omega (arith, cell_row _ _ _ _ c.loop-i-test.true (le_refl (c.args.rows * c.args.n)))
-
-pub slice_bounds-unit_row-end-in-loop-i : goal.slice_bounds-unit_row-end-in-loop-i
-slice_bounds-unit_row-end-in-loop-i c = omega (arith, cell_row _ _ _ _ c.loop-i-test.true (le_refl (c.args.rows * c.args.n)))
-
 pub unit_row-requires : goal.unit_row-requires
 unit_row-requires c = part_length (c.loop-i.i * c.args.n) _ _ (omega (arith, cell_row _ _ _ _ c.loop-i-test.true (le_refl (c.args.rows * c.args.n)))) ∙ sym (part_length (c.loop-i.i * c.args.n) _ _ (omega (arith, cell_row _ _ _ _ c.loop-i-test.true (le_refl (c.args.rows * c.args.n)))))
 

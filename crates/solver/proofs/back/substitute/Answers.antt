@@ -12,7 +12,6 @@ use Rattle.floats.specs.Ops.{◌⊖◌, ◌⊘◌, zero⁺, zero⁻}
 use Rattle.loops.specs.Turns.{down_to}
 use Rattle.loops.proofs.Both.{up_to-same}
 use Rattle.loops.proofs.Turning.{down_to-next, down_to-done}
-use Rattle.loops.proofs.Cells.{cells}
 use Rattle.loops.proofs.Parts.{get-past}
 use Rattle.solver.specs.Steps.{at, add_term, sum_of, back_at, back_of}
 use Rattle.solver.proofs.back.substitute.Invariants.{so_far}
@@ -65,18 +64,6 @@ loop-r-init c = (search rules, refl, refl, ap (down_to _ _) (at-start _ _ (searc
 
 pub weight-requires : goal.weight-requires
 weight-requires c = (search rules, (search rules, search rules))
-
-pub overflow_mul-b : goal.overflow_mul-b
-overflow_mul-b c = let h : c.loop-r.r - 1 < c.args.n = omega arith in search (cells, rules)
-
-pub overflow_add-b : goal.overflow_add-b
-overflow_add-b c = let h : c.loop-r.r - 1 < c.args.n = omega arith in search (cells, rules)
-
-pub offset_bounds-a-r : goal.offset_bounds-a-r
-offset_bounds-a-r c = let h : c.loop-r.r - 1 < c.args.n = omega arith in search (cells, rules)
-
-pub bounds-a-r : goal.bounds-a-r
-bounds-a-r c = let h : c.loop-r.r - 1 < c.args.n = omega arith in search (cells, rules)
 
 pub loop-r-preserved : goal.loop-r-preserved
 loop-r-preserved c = (

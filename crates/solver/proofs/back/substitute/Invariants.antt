@@ -14,6 +14,3 @@ so_far r b = replicate r zero⁺ ++ drop r b
 
 abbrev pub invariant-loop-r : goal.invariant-loop-r
 invariant-loop-r l = (l.r ≤ l.n) × (length l.b ≡ length l.initial.b) × (take l.r l.b ≡ take l.r l.initial.b) × (down_to l.r (back_at l.n l.a l.initial.b) (so_far l.r l.b) ≡ back_of l.n (sys l.a l.initial.b))
-
-abbrev pub decreases-loop-r : goal.decreases-loop-r
-decreases-loop-r l = l.r

@@ -2,8 +2,8 @@ use Prim.Native.Nat.{◌≤◌}
 use mathlib.Core.Path.{◌≡◌}
 use lib.ListN.{length}
 use Rattle.loops.specs.Turns.{up_to}
-use Rattle.solver.specs.Steps.{less_past}
+use Rattle.solver.specs.Steps.{less_by}
 use Rattle.solver.proofs.below.row_update.Given as goal
 
-abbrev pub invariant-loop-c : goal.invariant-loop-c
-invariant-loop-c l = (l.c ≤ l.len) × (length l.s ≡ length l.initial.s) × (up_to l.len l.c (less_past l.off l.f) l.s ≡ up_to l.len 0 (less_past l.off l.f) l.initial.s)
+abbrev pub invariant-loop-i : goal.invariant-loop-i
+invariant-loop-i l = (l.i ≤ l.end) × (length l.row ≡ length l.initial.row) × (up_to l.end l.i (less_by l.other l.f) l.row ≡ up_to l.end 0 (less_by l.other l.f) l.initial.row)

@@ -1,22 +1,8 @@
 use mathlib.Core.Path.{refl}
 use borrow.Author.Tests.{lt-ltb, le-ltb}
-use Rattle.loops.proofs.Cells.{cells}
 use Rattle.loops.proofs.Picks.{pick_yes, pick_no}
 use Rattle.solver.specs.Steps.{larger_row}
-use borrow.Author.Rules.{rules}
 use Rattle.solver.proofs.pivot.larger_row.Goals as goal
-
-pub overflow_mul-q : goal.overflow_mul-q
-overflow_mul-q c = search (cells, rules)
-
-pub overflow_add-q : goal.overflow_add-q
-overflow_add-q c = search (cells, rules)
-
-pub offset_bounds-a-q : goal.offset_bounds-a-q
-offset_bounds-a-q c = search (cells, rules)
-
-pub bounds-a-q : goal.bounds-a-q
-bounds-a-q c = search (cells, rules)
 
 pub returns-then-p-s : goal.returns-then-p-s
 unfolding larger_row

@@ -1,21 +1,8 @@
 use mathlib.Core.Path.{refl}
 use borrow.Author.Rules.{rules}
 use Rattle.loops.proofs.Turning.{up_to-next, up_to-done}
-use Rattle.loops.proofs.Cells.{cells}
 use Rattle.solver.specs.Steps.{pivot_of}
 use Rattle.solver.proofs.pivot.pivot_row.Goals as goal
-
-pub overflow_mul-col : goal.overflow_mul-col
-overflow_mul-col c = search (cells, rules)
-
-pub overflow_add-col : goal.overflow_add-col
-overflow_add-col c = search (cells, rules)
-
-pub offset_bounds-a-col : goal.offset_bounds-a-col
-offset_bounds-a-col c = search (cells, rules)
-
-pub bounds-a-col : goal.bounds-a-col
-bounds-a-col c = search (cells, rules)
 
 pub loop-row-init : goal.loop-row-init
 unfolding pivot_of

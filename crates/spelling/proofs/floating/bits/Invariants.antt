@@ -1,9 +1,9 @@
-use Prim.Native.Nat.{◌≤◌}
-use mathlib.Core.Path.{◌≡◌}
-use Rattle.loops.specs.Turns.{up_to}
-use Rattle.spelling.specs.Floating.{next_hex}
+use Rattle.std.proofs.Common.{◌≡◌, ◌<◌, ◌^◌, Some}
+use Rattle.spelling.specs.Floating.{digits_at}
 use Rattle.spelling.proofs.floating.bits.Given as goal
 
 abbrev pub invariant-loop-i : goal.invariant-loop-i
-invariant-loop-i l =
-    (l._i ≤ 16) × (up_to 16 l._i (λ k. next_hex l.s) l.f ≡ up_to 16 0 (λ k. next_hex l.s) l.initial.f)
+invariant-loop-i l = record {
+  read : digits_at l._i l.s l.at ≡ Some (l.bits, l.next);
+  small : l.bits < 16 ^ l._i;
+}

@@ -1,0 +1,11 @@
+use mathlib.Core.Path.{◌≡◌}
+use lib.ListN.{length}
+use Rattle.loops.specs.Turns.{up_to}
+use Rattle.sketch.specs.Parts.{equations_of}
+use Rattle.groups.specs.Tied.{tie_all, tied_of}
+use Rattle.groups.specs.Touches.{touched_by}
+use Rattle.groups.proofs.tied.tied_points.Given as goal
+
+abbrev pub invariant-loop-a : goal.invariant-loop-a
+invariant-loop-a l =
+    up_to (length (equations_of l.b)) l.a-index (λ k. tie_all (touched_by l.b k)) l.s ≡ tied_of (touched_by l.b) (length (equations_of l.b))

@@ -1,5 +1,0 @@
--- The measure is the number itself.
-use Rattle.reply.proofs.figures.+digits.Given as goal
-
-abbrev pub decreases-digits : goal.decreases-digits
-decreases-digits l = l.n

@@ -1,7 +1,0 @@
--- Past the end a store changes nothing. Assumes nothing.
-use mathlib.Core.Path.{sym}
-use lib.Seq.{set_out}
-use Rattle.reply.proofs.laying.store.Goals as goal
-
-pub returns-else-i-s : goal.returns-else-i-s
-returns-else-i-s c = sym (set_out _ _ _ c.if-i-s.false)

@@ -1,5 +1,0 @@
--- What the calls promise, from the last to the first. Assumes nothing.
-use Rattle.rows.proofs.located.middle.Goals as goal
-
-pub returns : goal.returns
-returns c = rw (c.sub.ensures, c.at-3.ensures, c.times_vec-m.ensures, c.plus_vec.ensures, c.at-2.ensures, c.at.ensures)

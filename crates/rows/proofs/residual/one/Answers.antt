@@ -1,8 +1,0 @@
--- What the calls promise, from the last to the first. Assumes nothing.
-use mathlib.Core.Path.{refl}
-use Rattle.rows.specs.Entries.{values_of}
-use Rattle.rows.proofs.residual.one.Goals as goal
-
-pub returns : goal.returns
-unfolding values_of
-returns c = refl
