@@ -1,8 +1,8 @@
 -- The library call on the build of a text, and tables laid in lent places.
-use Rattle.std.specs.Prelude.{ℕ, min, List, ◌≡◌, Float, length, get_or, set, Result, Ok, Err}
+use Rattle.std.specs.Prelude.{ℕ, List, ◌++◌, ◌≡◌, Float, length, take, drop, Result, Ok, Err}
 use Rattle.groups.specs.declared.Grouping.{Grouping}
 use Rattle.job.specs.Promise.{answer_after, output_after, area_after, verdict}
-use Rattle.loops.specs.Turns.{up_to}
+use Rattle.sketch.specs.Blank.{empty_build}
 use Rattle.sketch.specs.Check.{number_of}
 use Rattle.sketch.specs.declared.Build.{Build}
 use Rattle.sketch.specs.declared.Ending.{Ending}
@@ -11,14 +11,11 @@ use Rattle.text.specs.Reader.{read_of}
 -- the build of a text; where only its groups, rows, levels, measures or worst are asked, a text that is refused is a build with nothing in it
 abbrev pub built : Result Build Ending → Build
 built (Ok b) = b
-built (Err e) = blank_build
+built (Err e) = empty_build
 
--- a table of 40 in lent places, as far as there are any
-unfoldable pub table_in : List ℕ → ℕ → List ℕ → List ℕ
-table_in table i s = set s i (get_or table i 0)
-
-unfoldable pub laid_over : List ℕ → List ℕ → List ℕ
-laid_over table s = up_to (min 40 (length s)) 0 (table_in table) s
+-- a table in lent places, as far as there are any
+abbrev pub laid_over : List ℕ → List ℕ → List ℕ
+laid_over table s = take (length s) table ++ drop (length table) s
 
 -- the count of groups, and the group of each point and of each equation
 pub record Grouped (g : Grouping) (points equations points' equations' : List ℕ) (n : ℕ) : Type 0 where
