@@ -6,14 +6,13 @@
 mod input;
 mod output;
 
-use input::Input;
 use std::io;
 
 fn main(rt: HostRuntime) -> io::Result<()> {
     // One byte more than a text may have, so that a longer one is known to be too long.
     let mut text = [0u8; 16385];
     match input::read(rt, &mut text) {
-        Input::Ended(n) => output::answer(rt, &text[..n]),
-        Input::Failed(e) => eprintln!(rt; "fitter: standard input: {e}"),
+        Ok(n) => output::answer(rt, &text[..n]),
+        Err(e) => eprintln!(rt; "fitter: standard input: {e}"),
     }
 }

@@ -2,8 +2,7 @@
 
 #![tactic(auto)]
 
-ghost use Rattle.std.specs.Prelude.{◌≡◌, length, get_or, set, replicate};
-ghost use Rattle.std.specs.Float.{nan};
+ghost use Rattle.std.specs.Prelude.{◌≡◌, length, replicate};
 ghost use Rattle.std.specs.Float.Ieee.Scale.{finite};
 ghost use Rattle.floats.specs.Largest.{larger_abs, max_abs_of};
 ghost use Rattle.floats.specs.Lists.{copied_of, swap_at};
@@ -77,20 +76,6 @@ pub fn handed_out(x: f64) -> f64
     ensures { result ≡ x }
 {
     if x.is_nan() { f64::NAN } else { x }
-}
-
-// What stands at i, and a NaN past the end.
-pub fn get(s: &[f64], i: usize) -> f64
-    ensures { result ≡ get_or s.now i nan }
-{
-    slices::get_or(s, i, f64::NAN)
-}
-
-// Puts v at i, and does nothing past the end.
-pub fn put(s: &mut [f64], i: usize, v: f64)
-    ensures { s.new ≡ set s.old i v }
-{
-    slices::put(s, i, v);
 }
 
 // Every place +0.0.

@@ -1,93 +1,61 @@
--- So many lines of one sort are read exactly as they are written, and stand in front of the blanks. Assumes nothing.
-use Prim.Native.Nat.{ℕ, zero, suc, ◌+◌, ◌-◌, ◌≤◌}
-use mathlib.Core.Bool.{true}
+-- So many lines of one sort are read exactly as they are written. Assumes nothing.
+use Prim.Native.Nat.{ℕ, zero, suc}
 use mathlib.Core.List.{List, [], ◌∷◌, ◌++◌, map, append_assoc}
-use mathlib.Core.Path.{◌≡◌, refl, sym, ap, ap₂, ◌∙◌}
-use native.Mathlib.Nat.{zero-add}
-use native.Mathlib.Numerals.{add-one}
+use mathlib.Core.Path.{◌≡◌, refl, sym, ap, ap₂, subst, ◌∙◌}
 use native.Mathlib.Omega.{arith}
-use lib.ListN.{length, drop, set, replicate, length-map, length-replicate}
-use lib.Seq.{drop-nil, sets, sets-eq}
-use Rattle.loops.specs.Turns.{up_to, turns}
-use Rattle.sketch.specs.Blank.{filled}
-use Rattle.spelling.proofs.Forms.{Reads, anything}
-use Rattle.spelling.proofs.Steps.{Here}
-use Rattle.spelling.specs.declared.Cursor.{Cursor}
+use lib.ListN.{length}
+use Rattle.std.proofs.Common.{Some}
+use Rattle.spelling.proofs.Forms.{Reads, anything, read_same}
+use Rattle.spelling.proofs.Steps.{Here, bound}
+use Rattle.spelling.specs.Places.{Read}
+use Rattle.text.specs.Items.{items_at}
 use Rattle.grammar.specs.Job.{Each}
 use Rattle.grammar.specs.Printed.{each}
-
-module _ {A : Type 0} (read : List ℕ → Cursor → A) (next : List ℕ → Cursor → Cursor) where
-  unfoldable pub read_each : ℕ → List ℕ → Cursor → List A
-  read_each zero s c = []
-  read_each (suc k) s c = read s c ∷ read_each k s (next s c)
-
-  unfoldable pub next_each : ℕ → List ℕ → Cursor → Cursor
-  next_each zero s c = c
-  next_each (suc k) s c = next_each k s (next s c)
-
-  pub length-each : (k : ℕ) (s : List ℕ) (c : Cursor) → length (read_each k s c) ≡ k
-  unfolding read_each
-  length-each zero s c = refl
-  length-each (suc k) s c = ap suc (length-each k s (next s c))
 
 -- k of them
 abbrev pub EachFits : {A : Type 0} → (A → Type 0) → ℕ → List A → Type 0
 EachFits fit k l = (length l ≡ k) × Each fit l
 
-module _ {A : Type 0} {text : A → List ℕ} {fit : A → Type 0} {read : List ℕ → Cursor → A} {next : List ℕ → Cursor → Cursor} (r : Reads text fit read next anything) where
-  keeps : (k : ℕ) (s : List ℕ) (c : Cursor) → (next_each read next k s c).ok ≡ true → c.ok ≡ true
-  unfolding next_each
-  keeps zero s c h = h
-  keeps (suc k) s c h = r.keeps s c (keeps k s (next s c) h)
+module _ {A M : Type 0} {text : A → List ℕ} {fit : A → Type 0} {mean : A → M} {read : List ℕ → ℕ → Read M} (r : Reads text fit mean read anything) where
+  forward : (k : ℕ) (s : List ℕ) (at : ℕ) (l : List A) (t : List ℕ) → EachFits fit k l → Here s at (each text l ++ t)
+      → (n : ℕ) × (items_at read k s at ≡ Some (map mean l, n)) × Here s n t
+  unfolding items_at
+  forward zero s at [] t p h = (at, refl, h)
+  forward zero s at (a ∷ l) t p h = absurd (omega (arith, p.0))
+  forward (suc k) s at [] t p h = absurd (omega (arith, p.0))
+  forward (suc k) s at (a ∷ l) t p h =
+      let f = r.forward s at a (each text l ++ t) p.1.0 refl (rw append_assoc at h) in
+      let g = forward k s f.0 l t (omega (arith, p.0), p.1.1) f.2 in
+      (g.0, rw (f.1, g.1), g.2)
 
-  forward : (k : ℕ) (s : List ℕ) (c : Cursor) (l : List A) (t : List ℕ) → EachFits fit k l → Here s c (each text l ++ t)
-      → (read_each read next k s c ≡ l) × Here s (next_each read next k s c) t
-  unfolding read_each next_each
-  forward zero s c [] t p h = (refl, h)
-  forward zero s c (a ∷ l) t p h = absurd (omega (arith, p.0))
-  forward (suc k) s c [] t p h = absurd (omega (arith, p.0))
-  forward (suc k) s c (a ∷ l) t p h =
-      let f = r.forward s c a (each text l ++ t) p.1.0 refl (rw append_assoc at h) in
-      let g = forward k s (next s c) l t (omega (arith, p.0), p.1.1) f.1 in
-      (ap₂ {C = List A} (λ x m. x ∷ m) f.0 g.0, g.1)
-
-  backward : (k : ℕ) (s : List ℕ) (c : Cursor) (t : List ℕ) → Here s c t → (next_each read next k s c).ok ≡ true
-      → (u : List ℕ) × EachFits fit k (read_each read next k s c) × (t ≡ each text (read_each read next k s c) ++ u) × Here s (next_each read next k s c) u
-  unfolding read_each next_each
-  backward zero s c t h p = (t, (refl, tt), refl, h)
-  backward (suc k) s c t h p =
-      let f = r.backward s c t h (keeps k s (next s c) p) in
-      let g = backward k s (next s c) f.0 f.3 p in (
-        g.0,
-        (ap suc g.1.0, (f.1, g.1.1)),
-        f.2 ∙ ap (λ l. text (read s c) ++ l) g.2 ∙ sym (append_assoc (text (read s c)) (each text (read_each read next k s (next s c))) g.0),
-        g.3,
+  backward : (k : ℕ) (s : List ℕ) (at : ℕ) (t : List ℕ) (m : List M) (n : ℕ) → Here s at t → items_at read k s at ≡ Some (m, n)
+      → (l : List A) × (u : List ℕ) × EachFits fit k l × (map mean l ≡ m) × (t ≡ each text l ++ u) × Here s n u
+  unfolding items_at
+  backward zero s at t m n h e = let q = read_same e in ([], t, (refl, tt), q.0, refl, subst (λ (i : ℕ). Here s i t) q.1 h)
+  backward (suc k) s at t m n h e =
+      let b = bound (read s at) _ _ e in
+      let d = bound (items_at read k s b.0.1) _ _ b.2 in
+      let q = read_same d.2 in
+      let f = r.backward s at t b.0.0 b.0.1 h b.1 in
+      let g = backward k s b.0.1 f.1 d.0.0 d.0.1 f.5 d.1 in (
+        f.0 ∷ g.0,
+        g.1,
+        (ap suc g.2.0, (f.2, g.2.1)),
+        ap₂ {C = List M} (λ x l. x ∷ l) f.3 g.3 ∙ q.0,
+        f.4 ∙ ap (λ l. text f.0 ++ l) g.4 ∙ sym (append_assoc (text f.0) (each text g.0) g.1),
+        subst (λ (i : ℕ). Here s i g.1) q.1 g.5,
       )
 
-  pub each-reads : (k : ℕ) → Reads (each text) (EachFits fit k) (read_each read next k) (next_each read next k) anything
-  each-reads k = record { keeps = keeps k; forward = λ s c l t p h. forward k s c l t p; backward = backward k }
+  single : (k : ℕ) (l m : List A) (t u : List ℕ) → EachFits fit k l → EachFits fit k m → each text l ++ t ≡ each text m ++ u → (l ≡ m) × (t ≡ u)
+  single zero [] [] t u p q e = (refl, e)
+  single zero [] (b ∷ m) t u p q e = absurd (omega (arith, q.0))
+  single zero (a ∷ l) m t u p q e = absurd (omega (arith, p.0))
+  single (suc k) [] m t u p q e = absurd (omega (arith, p.0))
+  single (suc k) (a ∷ l) [] t u p q e = absurd (omega (arith, q.0))
+  single (suc k) (a ∷ l) (b ∷ m) t u p q e =
+      let v = r.single a b (each text l ++ t) (each text m ++ u) p.1.0 q.1.0 refl refl (sym (append_assoc (text a) (each text l) t) ∙ e ∙ append_assoc (text b) (each text m) u) in
+      let w = single k l m t u (omega (arith, p.0), p.1.1) (omega (arith, q.0), q.1.1) v.1 in
+      (ap₂ {C = List A} (λ x n. x ∷ n) v.0 w.0, w.1)
 
-drop-blanks : {B : Type 0} (n k : ℕ) (blank : B) → drop k (replicate n blank) ≡ replicate (n - k) blank
-drop-blanks zero k blank = let e : 0 - k ≡ 0 = omega arith in drop-nil k ∙ ap (λ i. replicate i blank) (sym e)
-drop-blanks (suc n) zero blank = let e : suc n - 0 ≡ suc n = omega arith in ap (λ i. replicate i blank) (sym e)
-drop-blanks (suc n) (suc k) blank = let e : suc n - suc k ≡ n - k = omega arith in drop-blanks n k blank ∙ ap (λ i. replicate i blank) (sym e)
-
--- The loop of the reader puts them one after another into the places.
-module _ {A B R : Type 0} (read : List ℕ → Cursor → A) (next : List ℕ → Cursor → Cursor) (mean : A → B) (s : List ℕ)
-    (made : List B → Cursor → R) (f : ℕ → R → R) (turn : (i : ℕ) (l : List B) (c : Cursor) → f i (made l c) ≡ made (set l i (mean (read s c))) (next s c)) where
-  turns-are : (k i : ℕ) (l : List B) (c : Cursor) → turns k i f (made l c) ≡ made (sets l i (map mean (read_each read next k s c))) (next_each read next k s c)
-  unfolding turns read_each next_each
-  turns-are zero i l c = refl
-  turns-are (suc k) i l c =
-      ap₂ (λ j r. turns k j f r) (add-one i) (turn i l c) ∙ turns-are k (suc i) (set l i (mean (read s c))) (next s c)
-
-  pub loop-is : (k n : ℕ) (blank : B) (c : Cursor) → k ≤ n
-      → up_to k 0 f (made (replicate n blank) c) ≡ made (filled n blank (map mean (read_each read next k s c))) (next_each read next k s c)
-  unfolding up_to
-  loop-is k n blank c h =
-      let vs = map mean (read_each read next k s c) in
-      let e : k - 0 ≡ k = omega arith in
-      let m : length vs ≡ k = length-map (read_each read next k s c) mean ∙ length-each read next k s c in
-      let w : 0 + length vs ≤ length (replicate n blank) = omega (arith, length-replicate n blank) in
-      let p : sets (replicate n blank) 0 vs ≡ filled n blank vs = sets-eq vs (replicate n blank) 0 w ∙ ap (λ r. vs ++ r) (ap (λ i. drop i (replicate n blank)) (zero-add (length vs)) ∙ drop-blanks n (length vs) blank) in
-      ap (λ j. turns j 0 f (made (replicate n blank) c)) e ∙ turns-are k 0 (replicate n blank) c ∙ ap (λ l. made l (next_each read next k s c)) p
+  pub each-reads : (k : ℕ) → Reads (each text) (EachFits fit k) (map mean) (items_at read k) anything
+  each-reads k = record { forward = λ s at l t p h. forward k s at l t p; backward = backward k; single = λ l m t u p q h i. single k l m t u p q }

@@ -1,107 +1,58 @@
 -- The count lines, and what comes after them, are read exactly as they are written. Assumes nothing.
-use Prim.Native.Nat.{ℕ, ◌≤◌}
+use Prim.Native.Nat.{ℕ}
 use mathlib.Core.List.{List, ◌++◌, map, append_assoc}
-use mathlib.Core.Path.{◌≡◌, refl, sym, ap, ◌∙◌}
-use lib.ListN.{set}
-use Rattle.loops.specs.Turns.{fold}
-use Rattle.phrases.specs.Fields.{vec_at}
-use Rattle.sketch.specs.Involved.{no_line}
+use mathlib.Core.Path.{◌≡◌, refl, sym}
+use lib.Ieee.{Float}
+use lib.ListN.{length-map}
+use Rattle.std.proofs.Common.{Some}
+use Rattle.plane.specs.declared.Vec2.{Vec2}
+use Rattle.sketch.specs.Blank.{sample}
+use Rattle.sketch.specs.declared.Active.{Active}
+use Rattle.sketch.specs.declared.Build.{Build}
+use Rattle.sketch.specs.declared.Line.{Line}
+use Rattle.sketch.specs.declared.Point.{Point}
 use Rattle.spelling.proofs.FloatForm.{float-reads}
-use Rattle.spelling.proofs.Forms.{Reads, anything, and-reads, as-reads, after-word, then-word}
+use Rattle.spelling.proofs.Forms.{Reads, anything, then-reads, mean-reads, as-reads, after-byte, after-word}
 use Rattle.spelling.proofs.WholeForm.{whole-reads}
-use Rattle.spelling.specs.Floating.{bits_at}
+use Rattle.spelling.specs.Floating.{float_at}
 use Rattle.spelling.specs.Letters.{ascii}
-use Rattle.spelling.specs.Places.{eat_of}
+use Rattle.spelling.specs.Places.{Read, ◌>>=◌, eat_of, word_of}
 use Rattle.spelling.specs.Printed.{whole_text}
-use Rattle.spelling.specs.declared.Cursor.{Cursor}
-use Rattle.sketch.specs.Blank.{blank_point, blank_active, blank_measured, filled}
-use Rattle.text.specs.Items.{point_into, line_into, equation_into, measure_into, points_at, lines_at, equations_at, measures_at}
+use Rattle.text.specs.Items.{items_at}
 use Rattle.text.specs.Lines.{point_line, line_line, equation_line, measure_line}
-use Rattle.text.specs.Reader.{count_at, build_at}
-use Rattle.text.specs.declared.CountsRead.{CountsRead}
-use Rattle.grammar.specs.Job.{Whole, Pattern, Place, PointItem, LineItem, EquationItem, MeasureItem, PlaceFits, PointFits, LineFits, EquationFits, MeasureFits, Counts, CountsFit, Job}
-use Rattle.grammar.specs.Meaning.{point_of, line_of, active_of, measured_of, build_of}
+use Rattle.text.specs.Reader.{count_at, counts_at, rest_at}
+use Rattle.text.specs.declared.Counts as C
+use Rattle.grammar.specs.Job.{Whole, Pattern, PlaceFits, PointFits, LineFits, EquationFits, MeasureFits, Counts, CountsFit, Job}
+use Rattle.grammar.specs.Meaning.{float_of, vec_of, point_of, line_of, active_of, measured_of, build_of}
 use Rattle.grammar.specs.Printed.{counts_text, rest_text}
-use Rattle.grammar.proofs.ItemForms.{read_each, next_each, EachFits, each-reads, loop-is, length-each}
-use Rattle.grammar.proofs.LineForms.{read_place, vec-is, place-reads, newline, read_point, point-is, point-reads, read_line, line-is, line_reads, read_equation_line, equation-line-is, equation-line-reads, read_measure_line, measure-line-is, measure-line-reads}
+use Rattle.grammar.proofs.ItemForms.{EachFits, each-reads}
+use Rattle.grammar.proofs.LineForms.{place-reads, line-reads, point-reads, line_reads, equation-line-reads, measure-line-reads}
 
 -- The count lines.
-count-reads : (key : List ℕ) → Reads (λ n. key ++ (whole_text n ++ ascii "\n")) Whole (λ s c. (count_at s c key).value) (λ s c. (count_at s c key).next) anything
+count-reads : (key : List ℕ) → Reads (λ n. key ++ (whole_text n ++ ascii "\n")) Whole (λ n. n) (λ s at. count_at s at key) anything
 unfolding count_at
-count-reads key = after-word key (then-word (ascii "\n") newline whole-reads)
+count-reads key = line-reads key (λ n. n) whole-reads
 
-abbrev pub read_counts : List ℕ → Cursor → Counts
-read_counts s c =
-    let p = count_at s c (ascii "points=") in
-    let l = count_at s p.next (ascii "lines=") in
-    let e = count_at s l.next (ascii "equations=") in
-    let m = count_at s e.next (ascii "measures=") in
-    record { points = p.value; lines = l.value; equations = e.value; measures = m.value }
+-- the counts as the reader gives them
+abbrev pub given_counts : Counts → C.Counts
+given_counts n = record { points = n.points; lines = n.lines; equations = n.equations; measures = n.measures }
 
-abbrev pub next_counts : List ℕ → Cursor → Cursor
-next_counts s c =
-    let p = count_at s c (ascii "points=") in
-    let l = count_at s p.next (ascii "lines=") in
-    let e = count_at s l.next (ascii "equations=") in
-    (count_at s e.next (ascii "measures=")).next
+abbrev last_count : ℕ → ℕ → ℕ × ℕ → List ℕ → Read C.Counts
+last_count p l e s = count_at s e.1 (ascii "measures=") >>= λ m. Some (record { points = p; lines = l; equations = e.0; measures = m.0 }, m.1)
 
-pub counts-reads : Reads counts_text CountsFit read_counts next_counts anything
+abbrev last_counts : ℕ → ℕ × ℕ → List ℕ → Read C.Counts
+last_counts p l s = count_at s l.1 (ascii "equations=") >>= λ e. last_count p l.0 e s
+
+abbrev more_counts : ℕ × ℕ → List ℕ → Read C.Counts
+more_counts p s = count_at s p.1 (ascii "lines=") >>= λ l. last_counts p.0 l s
+
+pub counts-reads : Reads counts_text CountsFit given_counts counts_at anything
+unfolding counts_at
 counts-reads =
-    as-reads {A = ℕ × (ℕ × (ℕ × ℕ))} {B = Counts} (λ p. record { points = p.0; lines = p.1.0; equations = p.1.1.0; measures = p.1.1.1 })
-    (λ n. (n.points, (n.lines, (n.equations, n.measures)))) (λ b. refl) (λ b. simp append_assoc) (λ a. simp append_assoc)
-    (λ b h. (h.0, (h.1, (h.2, h.3)))) (λ a h. (h.0, h.1.0, h.1.1.0, h.1.1.1)) (λ s c. refl) (λ s c. refl)
-    (and-reads (count-reads (ascii "points="))
-    (and-reads (count-reads (ascii "lines=")) (and-reads (count-reads (ascii "equations=")) (count-reads (ascii "measures=")) (λ b t h. refl)) (λ b t h. refl)) (λ b t h. refl))
-
--- The lines of the items.
-abbrev read_points : ℕ → List ℕ → Cursor → List PointItem
-read_points = read_each read_point (λ s c. (point_line s c).next)
-
-abbrev next_points : ℕ → List ℕ → Cursor → Cursor
-next_points = next_each read_point (λ s c. (point_line s c).next)
-
-abbrev read_lines : ℕ → List ℕ → Cursor → List LineItem
-read_lines = read_each read_line (λ s c. (line_line s c).next)
-
-abbrev next_lines : ℕ → List ℕ → Cursor → Cursor
-next_lines = next_each read_line (λ s c. (line_line s c).next)
-
-abbrev read_equations : ℕ → List ℕ → Cursor → List EquationItem
-read_equations = read_each read_equation_line (λ s c. (equation_line s c).next)
-
-abbrev next_equations : ℕ → List ℕ → Cursor → Cursor
-next_equations = next_each read_equation_line (λ s c. (equation_line s c).next)
-
-abbrev read_measures : ℕ → List ℕ → Cursor → List MeasureItem
-read_measures = read_each read_measure_line (λ s c. (measure_line s c).next)
-
-abbrev next_measures : ℕ → List ℕ → Cursor → Cursor
-next_measures = next_each read_measure_line (λ s c. (measure_line s c).next)
-
-module _ (s : List ℕ) (c : Cursor) (k : ℕ) where
-  points-are : k ≤ 40 → points_at s c k ≡ record { points = filled 40 blank_point (map point_of (read_points k s c)); next = next_points k s c }
-  unfolding point_into
-  points-are h =
-      loop-is read_point (λ s c. (point_line s c).next) point_of s (λ l d. record { points = l; next = d }) (point_into s)
-      (λ i l d. ap (λ p. record { points = set l i p; next = (point_line s d).next }) (point-is s d)) k 40 blank_point c h
-
-  lines_are : k ≤ 40 → lines_at s c k ≡ record { lines = filled 40 no_line (map line_of (read_lines k s c)); next = next_lines k s c }
-  unfolding line_into
-  lines_are h =
-      loop-is read_line (λ s c. (line_line s c).next) line_of s (λ l d. record { lines = l; next = d }) (line_into s)
-      (λ i l d. ap (λ p. record { lines = set l i p; next = (line_line s d).next }) (line-is s d)) k 40 no_line c h
-
-  equations-are : k ≤ 40 → equations_at s c k ≡ record { equations = filled 40 blank_active (map active_of (read_equations k s c)); next = next_equations k s c }
-  unfolding equation_into
-  equations-are h =
-      loop-is read_equation_line (λ s c. (equation_line s c).next) active_of s (λ l d. record { equations = l; next = d }) (equation_into s)
-      (λ i l d. ap (λ p. record { equations = set l i p; next = (equation_line s d).next }) (equation-line-is s d)) k 40 blank_active c h
-
-  measures-are : k ≤ 20 → measures_at s c k ≡ record { measures = filled 20 blank_measured (map measured_of (read_measures k s c)); next = next_measures k s c }
-  unfolding measure_into
-  measures-are h =
-      loop-is read_measure_line (λ s c. (measure_line s c).next) measured_of s (λ l d. record { measures = l; next = d }) (measure_into s)
-      (λ i l d. ap (λ p. record { measures = set l i p; next = (measure_line s d).next }) (measure-line-is s d)) k 20 blank_measured c h
+    as-reads (then-reads more_counts (count-reads (ascii "points=")) (λ p. then-reads (last_counts p) (count-reads (ascii "lines=")) (λ l. then-reads (last_count p l) (count-reads (ascii "equations="))
+    (λ e. mean-reads (λ m. record { points = p; lines = l; equations = e; measures = m }) (count-reads (ascii "measures="))) (λ a b t h. refl)) (λ a b t h. refl)) (λ a b t h. refl))
+    (λ p. record { points = p.0; lines = p.1.0; equations = p.1.1.0; measures = p.1.1.1 }) (λ n. (n.points, (n.lines, (n.equations, n.measures))))
+    (λ b. refl) (λ a. simp append_assoc) (λ a. refl) (λ b h. (h.0, (h.1, (h.2, h.3)))) (λ a h. (h.0, h.1.0, h.1.1.0, h.1.1.1))
 
 -- What comes after the counts.
 pub record RestFits (n : Counts) (j : Job) : Type 0 where
@@ -112,78 +63,48 @@ pub record RestFits (n : Counts) (j : Job) : Type 0 where
   pub equations : EachFits EquationFits n.equations j.equations
   pub measures : EachFits MeasureFits n.measures j.measures
 
--- the places where its parts begin
-module _ (n : Counts) (s : List ℕ) (c : Cursor) where
-  abbrev at_centre : Cursor
-  at_centre = fold (eat_of s) c (ascii "centre=")
+-- its parts one after another
+module _ (n : Counts) where
+  abbrev measures_on : Vec2 → Float → List Point → List Line → List Active × ℕ → List ℕ → Read Build
+  measures_on v z p l e s = items_at measure_line n.measures s e.1 >>= λ m. Some (sample v z p l e.0 m.0, m.1)
 
-  abbrev at_size : Cursor
-  at_size = fold (eat_of s) (vec_at s at_centre).next (ascii "\nsize=")
+  abbrev equations_on : Vec2 → Float → List Point → List Line × ℕ → List ℕ → Read Build
+  equations_on v z p l s = items_at equation_line n.equations s l.1 >>= λ e. measures_on v z p l.0 e s
 
-  abbrev at_points : Cursor
-  at_points = fold (eat_of s) (bits_at s at_size).next (ascii "\n")
+  abbrev lines_on : Vec2 → Float → List Point × ℕ → List ℕ → Read Build
+  lines_on v z p s = items_at line_line n.lines s p.1 >>= λ l. equations_on v z p.0 l s
 
-  abbrev at_lines : Cursor
-  at_lines = next_points n.points s at_points
+  abbrev points_on : Vec2 → Float × ℕ → List ℕ → Read Build
+  points_on v z s = eat_of s z.1 10 >>= λ i. items_at point_line n.points s i >>= λ p. lines_on v z.0 p s
 
-  abbrev at_equations : Cursor
-  at_equations = next_lines n.lines s at_lines
+  abbrev size_on : Vec2 × ℕ → List ℕ → Read Build
+  size_on v s = word_of s v.1 (ascii "\nsize=") >>= λ k. float_at s k >>= λ z. points_on v.0 z s
 
-  abbrev at_measures : Cursor
-  at_measures = next_equations n.equations s at_equations
+built : (j : Job) → build_of j ≡ sample (vec_of j.centre) (float_of j.size) (map point_of j.points) (map line_of j.lines) (map active_of j.equations) (map measured_of j.measures)
+built j = λ t. record {
+  centre = vec_of j.centre;
+  size = float_of j.size;
+  points = (build_of j).points;
+  point_count = sym (length-map j.points point_of) t;
+  lines = (build_of j).lines;
+  line_count = sym (length-map j.lines line_of) t;
+  equations = (build_of j).equations;
+  equation_count = sym (length-map j.equations active_of) t;
+  measures = (build_of j).measures;
+  measure_count = sym (length-map j.measures measured_of) t;
+}
 
-  abbrev pub read_rest : Job
-  read_rest = record {
-    centre = read_place s at_centre;
-    size = (bits_at s at_size).bits;
-    points = read_points n.points s at_points;
-    lines = read_lines n.lines s at_lines;
-    equations = read_equations n.equations s at_equations;
-    measures = read_measures n.measures s at_measures;
-  }
-
-  abbrev pub next_rest : Cursor
-  next_rest = next_measures n.measures s at_measures
-
-pub rest-reads : (n : Counts) → Reads rest_text (RestFits n) (read_rest n) (next_rest n) anything
+pub rest-reads : (n : Counts) → Reads rest_text (RestFits n) build_of (rest_at (given_counts n)) anything
+unfolding rest_at
 rest-reads n =
-    as-reads {A = Place × (ℕ × (List PointItem × (List LineItem × (List EquationItem × List MeasureItem))))} {B = Job}
+    as-reads (after-word (then-reads (size_on n) place-reads
+    (λ c. after-word (then-reads (points_on n (vec_of c)) float-reads
+    (λ z. after-byte (then-reads (lines_on n (vec_of c) (float_of z)) (each-reads point-reads n.points)
+    (λ ps. then-reads (equations_on n (vec_of c) (float_of z) (map point_of ps)) (each-reads line_reads n.lines)
+    (λ ls. then-reads (measures_on n (vec_of c) (float_of z) (map point_of ps) (map line_of ls)) (each-reads equation-line-reads n.equations)
+    (λ es. mean-reads (λ ms. sample (vec_of c) (float_of z) (map point_of ps) (map line_of ls) (map active_of es) ms) (each-reads measure-line-reads n.measures))
+    (λ a b t h. refl)) (λ a b t h. refl)) (λ a b t h. refl)) 10) (λ a b t h. refl)) (ascii "\nsize=")) (λ a b t h. refl)) (ascii "centre="))
     (λ p. record { centre = p.0; size = p.1.0; points = p.1.1.0; lines = p.1.1.1.0; equations = p.1.1.1.1.0; measures = p.1.1.1.1.1 })
-    (λ j. (j.centre, (j.size, (j.points, (j.lines, (j.equations, j.measures)))))) (λ b. refl) (λ b. simp append_assoc) (λ a. simp append_assoc)
+    (λ j. (j.centre, (j.size, (j.points, (j.lines, (j.equations, j.measures)))))) (λ b. refl) (λ a. simp append_assoc) (λ a. built _)
     (λ b h. (h.centre, (h.size, (h.points, (h.lines, (h.equations, h.measures))))))
     (λ a h. record { centre = h.0; size = h.1.0; points = h.1.1.0; lines = h.1.1.1.0; equations = h.1.1.1.1.0; measures = h.1.1.1.1.1 })
-    (λ s c. refl) (λ s c. refl)
-    (after-word (ascii "centre=") (and-reads place-reads
-    (after-word (ascii "\nsize=") (and-reads float-reads
-    (after-word (ascii "\n") (and-reads (each-reads point-reads n.points)
-    (and-reads (each-reads line_reads n.lines) (and-reads (each-reads equation-line-reads n.equations) (each-reads measure-line-reads n.measures) (λ b t h. refl)) (λ b t h. refl)) (λ b t h. refl))) (λ b t h. refl))) (λ b t h. refl)))
-
-pub build-is : (s : List ℕ) (r : CountsRead) → let n : Counts = record { points = r.points; lines = r.lines; equations = r.equations; measures = r.measures } in
-    r.points ≤ 40 → r.lines ≤ 40 → r.equations ≤ 40 → r.measures ≤ 20 → build_at s r ≡ record { build = build_of (read_rest n s r.next); next = next_rest n s r.next }
-unfolding build_at
-build-is s r h k i j =
-    let n : Counts = record { points = r.points; lines = r.lines; equations = r.equations; measures = r.measures } in
-    let c = r.next in
-    let p = points-are s (at_points n s c) r.points h in
-    let l = ap (λ q. lines_at s q.next r.lines) p ∙ lines_are s (at_lines n s c) r.lines k in
-    let e = ap (λ q. equations_at s q.next r.equations) l ∙ equations-are s (at_equations n s c) r.equations i in
-    let m = ap (λ q. measures_at s q.next r.measures) e ∙ measures-are s (at_measures n s c) r.measures j in
-    let a = sym (length-each read_point (λ s c. (point_line s c).next) r.points s (at_points n s c)) in
-    let b = sym (length-each read_line (λ s c. (line_line s c).next) r.lines s (at_lines n s c)) in
-    let d = sym (length-each read_equation_line (λ s c. (equation_line s c).next) r.equations s (at_equations n s c)) in
-    let f = sym (length-each read_measure_line (λ s c. (measure_line s c).next) r.measures s (at_measures n s c)) in
-    λ t. record {
-      build = record {
-        centre = vec-is s (at_centre n s c) t;
-        size = (build_of (read_rest n s c)).size;
-        points = (p t).points;
-        point_count = a t;
-        lines = (l t).lines;
-        line_count = b t;
-        equations = (e t).equations;
-        equation_count = d t;
-        measures = (m t).measures;
-        measure_count = f t;
-      };
-      next = (m t).next;
-    }

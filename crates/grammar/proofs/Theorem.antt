@@ -1,72 +1,47 @@
 -- The reader takes exactly the texts of the form, each with one reading, and gives 1, 2 and 3 exactly when document 01's order says.
 -- Assumes nothing.
 use Prim.Native.Nat.{ℕ, ◌-◌, ◌≤◌, ◌<◌}
-use mathlib.Core.Bool.{Bool, true, false, not, ◌&&◌, ◌||◌}
+use mathlib.Core.Bool.{Bool, true, false}
 use mathlib.Core.List.{List, [], ◌∷◌, ◌++◌, append-nil}
 use mathlib.Core.Logic.{◌↔◌}
 use mathlib.Core.Path.{◌≡◌, refl, sym, ap, subst, ◌∙◌}
 use native.Mathlib.Omega.{arith}
-use borrow.Author.Tests.{not-false, lt-ltb, le-ltb, ltb-true, ltb-false, eq-eqb, eqb-true}
-use lib.Dec.{ltb, eqb}
+use borrow.Author.Tests.{lt-ltb, le-ltb, ltb-true, ltb-false, eq-eqb, eqb-true}
+use lib.Dec.{eqb}
 use lib.ListN.{length, length-drop}
+use Rattle.std.proofs.Common.{Option, Some, None, Result, Ok, Err, if◌then◌else◌}
 use Rattle.sketch.specs.declared.Build.{Build}
 use Rattle.sketch.specs.declared.Ending.{Ending}
-use Rattle.spelling.proofs.Steps.{Here, never}
-use Rattle.spelling.specs.declared.Cursor.{Cursor}
+use Rattle.spelling.proofs.Steps.{Here, begin, never, some-is, not-both}
+use Rattle.spelling.specs.Places.{Read}
 use Rattle.text.proofs.Given.{reads-exactly}
-use Rattle.text.specs.Reader.{counts_at, over_counts, build_at, refused_with, judged, too_long, bad_counts, bad_rest, read_of}
-use Rattle.text.specs.declared.CountsRead.{CountsRead}
-use Rattle.text.specs.declared.Outcome.{Outcome}
-use Rattle.text.specs.declared.Reading.{Reading}
+use Rattle.text.proofs.Rest.{within}
+use Rattle.text.specs.Reader.{counts_at, over, rest_at, ended, build_at, judged, too_long, bad_counts, over_counts, read_of}
+use Rattle.text.specs.declared.Counts as C
 use Rattle.grammar.specs.Form.{Bounded, Writes, Exceeds, ReadsForm, OneReading}
 use Rattle.grammar.specs.Job.{Counts, CountsFit, counts_of, Job, Writable}
 use Rattle.grammar.specs.Meaning.{build_of}
-use Rattle.grammar.specs.Printed.{counts_text, rest_text, job_text}
-use Rattle.grammar.proofs.JobForm.{read_counts, next_counts, counts-reads, RestFits, read_rest, next_rest, rest-reads, build-is}
-
-abbrev start : Cursor
-start = record { at = 0; ok = true }
-
-begin : (s : List ℕ) → Here s start s
-begin s = record { good = refl; within = omega arith; rest = refl }
+use Rattle.grammar.specs.Printed.{counts_text, rest_text}
+use Rattle.grammar.proofs.JobForm.{given_counts, counts-reads, RestFits, rest-reads}
 
 -- the counts are within their bounds exactly when the reader finds them so
-abbrev counts_in : CountsRead → Counts
-counts_in r = record { points = r.points; lines = r.lines; equations = r.equations; measures = r.measures }
+bounded-within : (n : Counts) → Bounded n → over (given_counts n) ≡ false
+bounded-within n h = rw (le-ltb 40 n.points h.0, le-ltb 40 n.lines h.1, le-ltb 40 n.equations h.2, le-ltb 20 n.measures h.3)
 
-within : (r : CountsRead) → over_counts r ≡ false → Bounded (counts_in r)
-within r = go (ltb 40 r.points) (ltb 40 r.lines) (ltb 40 r.equations) (ltb 20 r.measures) refl refl refl refl
+exceeding : (n : Counts) → (Bounded n → ⊥) → over (given_counts n) ≡ true
+exceeding n h = go (over (given_counts n)) refl
   where
-    go : (a b c d : Bool) → ltb 40 r.points ≡ a → ltb 40 r.lines ≡ b → ltb 40 r.equations ≡ c → ltb 20 r.measures ≡ d → a || b || c || d ≡ false → Bounded (counts_in r)
-    go false false false false p q e f h = (ltb-false _ _ p, ltb-false _ _ q, ltb-false _ _ e, ltb-false _ _ f)
-    go true b c d p q e f h = absurd (never _ h refl)
-    go false true c d p q e f h = absurd (never _ h refl)
-    go false false true d p q e f h = absurd (never _ h refl)
-    go false false false true p q e f h = absurd (never _ h refl)
-
-bounded-within : (r : CountsRead) → Bounded (counts_in r) → over_counts r ≡ false
-bounded-within r h = rw (le-ltb 40 r.points h.0, le-ltb 40 r.lines h.1, le-ltb 40 r.equations h.2, le-ltb 20 r.measures h.3)
-
-exceeding : (r : CountsRead) → (Bounded (counts_in r) → ⊥) → over_counts r ≡ true
-exceeding r h = go (over_counts r) refl
-  where
-    go : (b : Bool) → over_counts r ≡ b → b ≡ true
+    go : (b : Bool) → over (given_counts n) ≡ b → b ≡ true
     go true e = refl
-    go false e = absurd (h (within r e))
+    go false e = absurd (h (within (given_counts n) e))
 
--- a good place with nothing left is the end
-ends_at : (s : List ℕ) (c : Cursor) → Here s c [] → c.at ≡ length s
-ends_at s c h = let e : length s - c.at ≡ 0 = sym (length-drop c.at s) ∙ ap length h.rest in omega (arith, h.within)
+-- a place with nothing left is the end
+ends_at : (s : List ℕ) (at : ℕ) → Here s at [] → at ≡ length s
+ends_at s at h = let e : length s - at ≡ 0 = sym (length-drop at s) ∙ ap length h.rest in omega (arith, h.within)
 
-nothing_left : (s : List ℕ) (c : Cursor) (t : List ℕ) → Here s c t → c.at ≡ length s → t ≡ []
-nothing_left s c [] h e = refl
-nothing_left s c (x ∷ t) h e = let l : length s - c.at ≡ length (x ∷ t) = sym (length-drop c.at s) ∙ ap length h.rest in absurd (omega arith)
-
--- the last test: the place is good, and it is the end
-both : (a b : Bool) → not (a && b) ≡ false → (a ≡ true) × (b ≡ true)
-both true true h = (refl, refl)
-both true false h = absurd (never _ h refl)
-both false b h = absurd (never _ h refl)
+nothing_left : (s : List ℕ) (at : ℕ) (t : List ℕ) → Here s at t → at ≡ length s → t ≡ []
+nothing_left s at [] h e = refl
+nothing_left s at (x ∷ t) h e = let l : length s - at ≡ length (x ∷ t) = sym (length-drop at s) ∙ ap length h.rest in absurd (omega arith)
 
 rest-fits : (j : Job) → Writable j → RestFits (counts_of j) j
 rest-fits j h = record {
@@ -92,143 +67,71 @@ fits-of n j p h = record {
   counts = subst CountsFit (sym (counts-of n j h)) p;
 }
 
-module _ (s : List ℕ) where
-  -- a text that begins with count lines is read so far with these counts
-  counts-forward : (n : Counts) (t : List ℕ) → CountsFit n → s ≡ counts_text n ++ t → (read_counts s start ≡ n) × Here s (next_counts s start) t
-  counts-forward n t p e = counts-reads.forward s start n t p refl (subst (λ (l : List ℕ). Here s start l) e (begin s))
-
-  -- and a job's text with this job
-  job-forward : (j : Job) → Writable j → s ≡ job_text j
-      → (read_counts s start ≡ counts_of j) × ((next_counts s start).ok ≡ true) × (read_rest (read_counts s start) s (next_counts s start) ≡ j) × Here s (next_rest (read_counts s start) s (next_counts s start)) []
-  job-forward j p e =
-      let c = next_counts s start in
-      let f = counts-forward (counts_of j) (rest_text j) p.counts e in
-      let h : Here s c (rest_text j ++ []) = subst (λ (l : List ℕ). Here s c l) (sym (append-nil (rest_text j))) f.1 in
-      let g = (rest-reads (counts_of j)).forward s c j [] (rest-fits j p) refl h in
-      let k = subst (λ (n : Counts). (read_rest n s c ≡ j) × Here s (next_rest n s c) []) (sym f.0) g in
-      (f.0, f.1.good, k.0, k.1)
-
-  counts-backward : (next_counts s start).ok ≡ true → (t : List ℕ) × CountsFit (read_counts s start) × (s ≡ counts_text (read_counts s start) ++ t) × Here s (next_counts s start) t
-  counts-backward h = counts-reads.backward s start s (begin s) h
-
-  job-backward : let n = read_counts s start in let c = next_counts s start in
-      c.ok ≡ true → (next_rest n s c).ok ≡ true → (next_rest n s c).at ≡ length s → Writable (read_rest n s c) × (counts_of (read_rest n s c) ≡ n) × (s ≡ job_text (read_rest n s c))
-  job-backward h k e =
-      let n = read_counts s start in
-      let c = next_counts s start in
-      let j = read_rest n s c in
-      let f = counts-backward h in
-      let g = (rest-reads n).backward s c f.0 f.3 k in
-      let m : counts_of j ≡ n = counts-of n j g.1 in
-      let l : f.0 ≡ rest_text j = g.2 ∙ ap (λ u. rest_text j ++ u) (nothing_left s (next_rest n s c) g.0 g.3 e) ∙ append-nil (rest_text j) in
-      (fits-of n j f.1 g.1, m, f.2 ∙ ap (λ u. counts_text n ++ u) l ∙ ap (λ k. counts_text k ++ rest_text j) (sym m))
-
--- what a reading is, by its outcome
-refused-is : (t c o r : Bool) (b : Build) (e : Ending) → (judged t c o r b).outcome ≡ Outcome.Ends e → judged t c o r b ≡ refused_with e
-refused-is true c o r b e h = cc
-refused-is false true o r b e h = cc
-refused-is false false true r b e h = cc
-refused-is false false false true b e h = cc
-refused-is false false false false b e h = cc
-
-read_is : (t c o r : Bool) (b : Build) → (judged t c o r b).outcome ≡ Outcome.Read → judged t c o r b ≡ record { outcome = Outcome.Read; build = b }
-read_is true c o r b h = cc
-read_is false true o r b h = cc
-read_is false false true r b h = cc
-read_is false false false true b h = cc
-read_is false false false false b h = refl
-
-form-many : refused_with Ending.BadForm ≡ refused_with Ending.TooMany → ⊥
-form-many h = let e : Outcome.Ends Ending.BadForm ≡ Outcome.Ends Ending.TooMany = ap (λ r. r.outcome) h in let z : ◌≡◌ {A = ℕ} 0 1 = cc in omega arith
-
-form-read : {b : Build} → refused_with Ending.BadForm ≡ record { outcome = Outcome.Read; build = b } → ⊥
-form-read h = let e : Outcome.Ends Ending.BadForm ≡ Outcome.Read = ap (λ r. r.outcome) h in let z : ◌≡◌ {A = ℕ} 0 1 = cc in omega arith
-
--- one of the four
-one_of : (t c o r : Bool) (b : Build) (P : Reading → Type 0) → P (refused_with Ending.TooLong) → P (refused_with Ending.BadForm) → P (refused_with Ending.TooMany)
-    → P (record { outcome = Outcome.Read; build = b }) → P (judged t c o r b)
-one_of true c o r b P p q v w = p
-one_of false true o r b P p q v w = q
-one_of false false true r b P p q v w = v
-one_of false false false true b P p q v w = q
-one_of false false false false b P p q v w = w
+-- what the reader's tests found
+counted : (o : Read C.Counts) → over_counts o ≡ true → (r : C.Counts × ℕ) × (o ≡ Some r) × (over r.0 ≡ true)
+counted None h = absurd (never _ refl h)
+counted (Some r) h = (r, refl, h)
 
 module _ (s : List ℕ) where
-  refused : (e : Ending) → (read_of s).outcome ≡ Outcome.Ends e → read_of s ≡ refused_with e
-  unfolding read_of
-  refused e h = let n = counts_at s in let b = build_at s n in refused-is (too_long s) (bad_counts n) (over_counts n) (bad_rest s b) b.build e h
+  at-end : (o : Read Build) (b : Build) → ended s o ≡ Some b → o ≡ Some (b, length s)
+  at-end None b h = absurd (not-both h)
+  at-end (Some r) b h = go (eqb r.1 (length s)) refl h
+    where
+      go : (q : Bool) → eqb r.1 (length s) ≡ q → (if q then Some r.0 else None) ≡ Some b → ◌≡◌ {A = Read Build} (Some r) (Some (b, length s))
+      go true e k = λ t. Some (some-is k t, eqb-true r.1 (length s) e t)
+      go false e k = absurd (not-both k)
 
-  read_whole : (read_of s).outcome ≡ Outcome.Read → read_of s ≡ record { outcome = Outcome.Read; build = (build_at s (counts_at s)).build }
-  unfolding read_of
-  read_whole h = let n = counts_at s in let b = build_at s n in read_is (too_long s) (bad_counts n) (over_counts n) (bad_rest s b) b.build h
+  built : (o : Read C.Counts) (b : Build) → build_at s o ≡ Some b → (r : C.Counts × ℕ) × (o ≡ Some r) × (rest_at r.0 s r.1 ≡ Some (b, length s))
+  built None b h = absurd (not-both h)
+  built (Some r) b h = (r, refl, at-end (rest_at r.0 s r.1) b h)
 
-  -- one of the four
-  pub cases : (P : Reading → Type 0) → P (refused_with Ending.TooLong) → P (refused_with Ending.BadForm) → P (refused_with Ending.TooMany)
-      → ((b : Build) → P (record { outcome = Outcome.Read; build = b })) → P (read_of s)
-  unfolding read_of
-  cases P p q v w = let n = counts_at s in let b = build_at s n in one_of (too_long s) (bad_counts n) (over_counts n) (bad_rest s b) b.build P p q v (w b.build)
+  -- a text that begins with count lines is read so far with these counts, and the other way about
+  counts-forward : (n : Counts) (t : List ℕ) → CountsFit n → s ≡ counts_text n ++ t → (i : ℕ) × (counts_at s 0 ≡ Some (given_counts n, i)) × Here s i t
+  counts-forward n t p e = counts-reads.forward s 0 n t p refl (subst (λ (l : List ℕ). Here s 0 l) e (begin s))
+
+  counts-backward : (r : C.Counts × ℕ) → counts_at s 0 ≡ Some r → (n : Counts) × (t : List ℕ) × CountsFit n × (given_counts n ≡ r.0) × (s ≡ counts_text n ++ t) × Here s r.1 t
+  counts-backward r e = counts-reads.backward s 0 s r.0 r.1 (begin s) e
 
   -- 3
-  exceeds : (bad_counts (counts_at s) ≡ false) × (over_counts (counts_at s) ≡ true) → Exceeds s
-  unfolding counts_at
+  exceeds : over_counts (counts_at s 0) ≡ true → Exceeds s
   exceeds h =
-      let f = counts-backward s (not-false _ h.0) in
-      record { counts = read_counts s start; fits = f.1; over = λ b. never _ (bounded-within (counts_at s) b) h.1; after = f.0; text = f.2 }
+      let c = counted (counts_at s 0) h in
+      let f = counts-backward c.0 c.1 in
+      record { counts = f.0; fits = f.2; over = λ b. never _ (sym (ap over f.3) ∙ bounded-within f.0 b) c.2; after = f.1; text = f.4 }
 
-  exceeded : Exceeds s → (bad_counts (counts_at s) ≡ false) × (over_counts (counts_at s) ≡ true)
-  unfolding counts_at
+  exceeded : Exceeds s → (bad_counts (counts_at s 0) ≡ false) × (over_counts (counts_at s 0) ≡ true)
   exceeded x =
-      let f = counts-forward s x.counts x.after x.fits x.text in
-      (ap not f.1.good, exceeding (counts_at s) (λ b. x.over (subst Bounded f.0 b)))
-
-  -- the build that the reader comes to, and where
-  abbrev read : Job
-  read = read_rest (read_counts s start) s (next_counts s start)
-
-  abbrev after : Cursor
-  after = next_rest (read_counts s start) s (next_counts s start)
-
-  built : Bounded (read_counts s start) → build_at s (counts_at s) ≡ record { build = build_of read; next = after }
-  unfolding counts_at
-  built h = build-is s (counts_at s) h.0 h.1 h.2 h.3
-
-  counted : over_counts (counts_at s) ≡ false → Bounded (read_counts s start)
-  unfolding counts_at
-  counted h = within (counts_at s) h
-
-  uncounted : Bounded (read_counts s start) → over_counts (counts_at s) ≡ false
-  unfolding counts_at
-  uncounted h = bounded-within (counts_at s) h
-
-  good-counts : bad_counts (counts_at s) ≡ false → (next_counts s start).ok ≡ true
-  unfolding counts_at
-  good-counts h = not-false _ h
-
-  counts-good : (next_counts s start).ok ≡ true → bad_counts (counts_at s) ≡ false
-  unfolding counts_at
-  counts-good h = ap not h
+      let f = counts-forward x.counts x.after x.fits x.text in
+      (ap bad_counts f.1, ap over_counts f.1 ∙ exceeding x.counts x.over)
 
   -- what was read is a job that this is the text of
-  writes : bad_counts (counts_at s) ≡ false → over_counts (counts_at s) ≡ false → bad_rest s (build_at s (counts_at s)) ≡ false
-      → Writes s read × ((build_at s (counts_at s)).build ≡ build_of read)
-  writes c o r =
-      let b = built (counted o) in
-      let e = both _ _ r in
-      let p : after.ok ≡ true = sym (ap (λ q. q.next.ok) b) ∙ e.0 in
-      let q : after.at ≡ length s = sym (ap (λ q. q.next.at) b) ∙ eqb-true _ _ e.1 in
-      let f = job-backward s (good-counts c) p q in
-      (record { fits = f.0; bounded = subst Bounded (sym f.1) (counted o); text = f.2 }, ap (λ q. q.build) b)
+  writes : (b : Build) → over_counts (counts_at s 0) ≡ false → build_at s (counts_at s 0) ≡ Some b → (j : Job) × Writes s j × (b ≡ build_of j)
+  writes b o h =
+      let c = built (counts_at s 0) b h in
+      let f = counts-backward c.0 c.1 in
+      let e : rest_at (given_counts f.0) s c.0.1 ≡ Some (b, length s) = subst (λ (n : C.Counts). rest_at n s c.0.1 ≡ Some (b, length s)) (sym f.3) c.2 in
+      let g = (rest-reads f.0).backward s c.0.1 f.1 b (length s) f.5 e in
+      let j = g.0 in
+      let m : counts_of j ≡ f.0 = counts-of f.0 j g.2 in
+      let u : f.1 ≡ rest_text j = g.4 ∙ ap (λ l. rest_text j ++ l) (nothing_left s (length s) g.1 g.5 refl) ∙ append-nil (rest_text j) in
+      let w : over (given_counts f.0) ≡ false = ap over f.3 ∙ sym (ap over_counts c.1) ∙ o in (
+        j,
+        record {
+          fits = fits-of f.0 j f.2 g.2;
+          bounded = subst Bounded (sym m) (within (given_counts f.0) w);
+          text = f.4 ∙ ap (λ l. counts_text f.0 ++ l) u ∙ ap (λ n. counts_text n ++ rest_text j) (sym m);
+        },
+        sym g.3,
+      )
 
   -- a text of a job is read, and as that job
-  written : (j : Job) → Writes s j
-      → (bad_counts (counts_at s) ≡ false) × (over_counts (counts_at s) ≡ false) × (bad_rest s (build_at s (counts_at s)) ≡ false) × ((build_at s (counts_at s)).build ≡ build_of j)
+  written : (j : Job) → Writes s j → (bad_counts (counts_at s 0) ≡ false) × (over_counts (counts_at s 0) ≡ false) × (build_at s (counts_at s 0) ≡ Some (build_of j))
   written j w =
-      let f = job-forward s j w.fits w.text in
-      let n : Bounded (read_counts s start) = subst Bounded (sym f.0) w.bounded in
-      let b = built n in
-      let p : (build_at s (counts_at s)).next.ok ≡ true = ap (λ q. q.next.ok) b ∙ f.3.good in
-      let q : eqb (build_at s (counts_at s)).next.at (length s) ≡ true = eq-eqb _ _ (ap (λ q. q.next.at) b ∙ ends_at s after f.3) in
-      (counts-good f.1, uncounted n, rw (p, q), ap (λ q. q.build) b ∙ ap build_of f.2)
+      let n = counts_of j in
+      let f = counts-forward n (rest_text j) w.fits.counts w.text in
+      let h : Here s f.0 (rest_text j ++ []) = subst (λ (l : List ℕ). Here s f.0 l) (sym (append-nil (rest_text j))) f.2 in
+      let g = (rest-reads n).forward s f.0 j [] (rest-fits j w.fits) refl h in
+      (ap bad_counts f.1, ap over_counts f.1 ∙ bounded-within n w.bounded, rw (f.1, g.1, eq-eqb g.0 (length s) (ends_at s g.0 g.2)))
 
   long : too_long s ≡ false → length s ≤ 16384
   long h = ltb-false 16384 (length s) h
@@ -236,45 +139,60 @@ module _ (s : List ℕ) where
   not-long : length s ≤ 16384 → too_long s ≡ false
   not-long h = le-ltb 16384 (length s) h
 
-  one : read_of s ≡ refused_with Ending.TooLong ↔ 16384 < length s
-  one = (λ h. ltb-true 16384 (length s) ((reads-exactly s).one.0 (ap (λ r. r.outcome) h)), λ h. refused Ending.TooLong ((reads-exactly s).one.1 (lt-ltb 16384 (length s) h)))
+  one : read_of s ≡ Err Ending.TooLong ↔ 16384 < length s
+  one = (λ h. ltb-true 16384 (length s) ((reads-exactly s).one.0 h), λ h. (reads-exactly s).one.1 (lt-ltb 16384 (length s) h))
 
-  three : read_of s ≡ refused_with Ending.TooMany ↔ (length s ≤ 16384) × Exceeds s
+  three : read_of s ≡ Err Ending.TooMany ↔ (length s ≤ 16384) × Exceeds s
   three = (
-    λ h. let e = (reads-exactly s).three.0 (ap (λ r. r.outcome) h) in (long e.0, exceeds (e.1, e.2)),
-    λ h. let e = exceeded h.1 in refused Ending.TooMany ((reads-exactly s).three.1 (not-long h.0, e.0, e.1)),
+    λ h. let e = (reads-exactly s).three.0 h in (long e.0, exceeds e.2),
+    λ h. let e = exceeded h.1 in (reads-exactly s).three.1 (not-long h.0, e.0, e.1),
   )
 
-  whole : (b : Build) → read_of s ≡ record { outcome = Outcome.Read; build = b } ↔ (length s ≤ 16384) × ((j : Job) × Writes s j × (b ≡ build_of j))
+  whole : (b : Build) → read_of s ≡ Ok b ↔ (length s ≤ 16384) × ((j : Job) × Writes s j × (b ≡ build_of j))
   whole b = (
-    λ h.
-        let e = (reads-exactly s).whole.0 (ap (λ r. r.outcome) h) in
-        let w = writes e.1 e.2 e.3 in
-        let m = read_whole (ap (λ r. r.outcome) h) in
-        (long e.0, (read, w.0, sym (ap (λ r. r.build) h) ∙ ap (λ r. r.build) m ∙ w.1)),
-    λ h.
-        let w = written h.1.0 h.1.1 in
-        let m = read_whole ((reads-exactly s).whole.1 (not-long h.0, w.0, w.1, w.2)) in
-        m ∙ ap (λ b. record { outcome = Outcome.Read; build = b }) (w.3 ∙ sym h.1.2),
+    λ h. let e = ((reads-exactly s).whole b).0 h in (long e.0, writes b e.2 e.3),
+    λ h. let w = written h.1.0 h.1.1 in ((reads-exactly s).whole b).1 (not-long h.0, w.0, w.1, w.2 ∙ ap Some (sym h.1.2)),
   )
+
+-- one of the four
+one_of : (t c o : Bool) (b : Option Build) (P : Result Build Ending → Type 0) → P (Err Ending.TooLong) → P (Err Ending.BadForm) → P (Err Ending.TooMany) → ((r : Build) → P (Ok r)) → P (judged t c o b)
+one_of true c o b P p q v w = p
+one_of false true o b P p q v w = q
+one_of false false true b P p q v w = v
+one_of false false false None P p q v w = q
+one_of false false false (Some r) P p q v w = w r
+
+form-many : ◌≡◌ {A = Result Build Ending} (Err Ending.BadForm) (Err Ending.TooMany) → ⊥
+form-many h = cc
+
+form-read : {b : Build} → ◌≡◌ {A = Result Build Ending} (Err Ending.BadForm) (Ok b) → ⊥
+form-read h = cc
+
+module _ (s : List ℕ) where
+  pub cases : (P : Result Build Ending → Type 0) → P (Err Ending.TooLong) → P (Err Ending.BadForm) → P (Err Ending.TooMany) → ((b : Build) → P (Ok b)) → P (read_of s)
+  unfolding read_of
+  cases P p q v w = let n = counts_at s 0 in one_of (too_long s) (bad_counts n) (over_counts n) (build_at s n) P p q v w
 
   -- neither a text over the bounds nor a job's
-  two : read_of s ≡ refused_with Ending.BadForm ↔ (length s ≤ 16384) × (Exceeds s → ⊥) × ((j : Job) → Writes s j → ⊥)
-  two = (λ h. let l = long ((reads-exactly s).two.0 (ap (λ r. r.outcome) h)).0 in (l, λ x. form-many (sym h ∙ three.1 (l, x)), λ j w. form-read (sym h ∙ (whole (build_of j)).1 (l, (j, w, refl)))), back)
+  two : read_of s ≡ Err Ending.BadForm ↔ (length s ≤ 16384) × (Exceeds s → ⊥) × ((j : Job) → Writes s j → ⊥)
+  two = (λ h. let l = long s ((reads-exactly s).two.0 h).0 in (l, λ x. form-many (sym h ∙ (three s).1 (l, x)), λ j w. form-read (sym h ∙ (whole s (build_of j)).1 (l, (j, w, refl)))), back)
     where
-      back : (length s ≤ 16384) × (Exceeds s → ⊥) × ((j : Job) → Writes s j → ⊥) → read_of s ≡ refused_with Ending.BadForm
+      back : (length s ≤ 16384) × (Exceeds s → ⊥) × ((j : Job) → Writes s j → ⊥) → read_of s ≡ Err Ending.BadForm
       back h =
-          cases (λ r. read_of s ≡ r → read_of s ≡ refused_with Ending.BadForm) (λ e. absurd (omega (arith, one.0 e, h.0))) (λ e. e) (λ e. absurd (h.1 (three.0 e).1))
-          (λ b e. let w = (whole b).0 e in absurd (h.2 w.1.0 w.1.1)) refl
+          cases (λ r. read_of s ≡ r → read_of s ≡ Err Ending.BadForm) (λ e. absurd (omega (arith, (one s).0 e, h.0))) (λ e. e) (λ e. absurd (h.1 ((three s).0 e).1))
+          (λ b e. let w = (whole s b).0 e in absurd (h.2 w.1.0 w.1.1)) refl
 
   pub reads-form : ReadsForm s (read_of s)
-  reads-form = record { one = one; two = two; three = three; whole = whole }
+  reads-form = record { one = one s; two = two; three = three s; whole = whole s }
 
   -- no second answer
-  pub only-reading : (r : Reading) → ReadsForm s r → r ≡ read_of s
+  pub only-reading : (r : Result Build Ending) → ReadsForm s r → r ≡ read_of s
   only-reading r f =
-      cases (λ q. read_of s ≡ q → r ≡ q) (λ e. f.one.1 (one.0 e)) (λ e. f.two.1 (two.0 e)) (λ e. f.three.1 (three.0 e)) (λ b e. (f.whole b).1 ((whole b).0 e)) refl
+      cases (λ q. read_of s ≡ q → r ≡ q) (λ e. f.one.1 ((one s).0 e)) (λ e. f.two.1 (two.0 e)) (λ e. f.three.1 ((three s).0 e)) (λ b e. (f.whole b).1 ((whole s b).0 e)) refl
 
 -- each text is one job's
 pub one-reading : OneReading
-one-reading j k p q e = sym (job-forward (job_text j) j p refl).2 ∙ (job-forward (job_text j) k q e).2
+one-reading j k p q e =
+    let c = counts-reads.single (counts_of j) (counts_of k) (rest_text j) (rest_text k) p.counts q.counts refl refl e in
+    let f : RestFits (counts_of j) k = subst (λ (n : Counts). RestFits n k) (sym c.0) (rest-fits k q) in
+    ((rest-reads (counts_of j)).single j k [] [] (rest-fits j p) f refl refl (append-nil (rest_text j) ∙ c.1 ∙ sym (append-nil (rest_text k)))).0

@@ -1,10 +1,7 @@
 -- What the reader gives, in the grammar's words (document 01, "The numbers a job ends in", its order for 1, 2 and 3).
-use Rattle.std.specs.Prelude.{List, ◌++◌, ◌↔◌, ◌≡◌, ℕ, ◌≤◌, ◌<◌, length}
+use Rattle.std.specs.Prelude.{List, ◌++◌, ◌↔◌, ◌≡◌, ℕ, ◌≤◌, ◌<◌, length, Result, Ok, Err}
 use Rattle.sketch.specs.declared.Build.{Build}
 use Rattle.sketch.specs.declared.Ending.{Ending}
-use Rattle.text.specs.Reader.{refused_with}
-use Rattle.text.specs.declared.Outcome.{Outcome}
-use Rattle.text.specs.declared.Reading.{Reading}
 use Rattle.grammar.specs.Job.{Counts, CountsFit, counts_of, Job, Writable}
 use Rattle.grammar.specs.Meaning.{build_of}
 use Rattle.grammar.specs.Printed.{counts_text, job_text}
@@ -28,11 +25,11 @@ pub record Exceeds (s : List ℕ) : Type 0 where
   pub text : s ≡ counts_text counts ++ after
 
 -- the four answers, each given exactly when its row says
-pub record ReadsForm (s : List ℕ) (r : Reading) : Type 0 where
-  pub one : r ≡ refused_with Ending.TooLong ↔ 16384 < length s
-  pub two : r ≡ refused_with Ending.BadForm ↔ (length s ≤ 16384) × (Exceeds s → ⊥) × ((j : Job) → Writes s j → ⊥)
-  pub three : r ≡ refused_with Ending.TooMany ↔ (length s ≤ 16384) × Exceeds s
-  pub whole : (b : Build) → r ≡ record { outcome = Outcome.Read; build = b } ↔ (length s ≤ 16384) × ((j : Job) × Writes s j × (b ≡ build_of j))
+pub record ReadsForm (s : List ℕ) (r : Result Build Ending) : Type 0 where
+  pub one : r ≡ Err Ending.TooLong ↔ 16384 < length s
+  pub two : r ≡ Err Ending.BadForm ↔ (length s ≤ 16384) × (Exceeds s → ⊥) × ((j : Job) → Writes s j → ⊥)
+  pub three : r ≡ Err Ending.TooMany ↔ (length s ≤ 16384) × Exceeds s
+  pub whole : (b : Build) → r ≡ Ok b ↔ (length s ≤ 16384) × ((j : Job) × Writes s j × (b ≡ build_of j))
 
 -- each text is one job's
 abbrev pub OneReading : Type 0

@@ -1,10 +1,9 @@
 -- A job as it is written (document 01, "The text"): point and line numbers as they stand there, and floats by the patterns of their
 -- bits, since a NaN has many patterns and one value. A count is the length of its list.
 use Rattle.std.specs.Prelude.{List, [], ◌∷◌, ℕ, ◌<◌, length}
-use Rattle.sketch.specs.Kinds.{fields_of, measured_fields}
+use Rattle.sketch.specs.Kinds.{Sort, fields_of, measured_fields}
 use Rattle.sketch.specs.declared.Gauge.{Gauge}
 use Rattle.sketch.specs.declared.Kind.{Kind}
-use Rattle.sketch.specs.declared.Sort.{Sort}
 
 -- a whole number has at most five digits, and a float has 64 bits
 abbrev pub Whole : ℕ → Type 0

@@ -6,8 +6,8 @@ use Rattle.floats.specs.Ops.{one}
 use Rattle.plane.specs.declared.Vec2.{Vec2}
 use Rattle.sketch.specs.Blank.{blank_point, blank_active, blank_measured, filled}
 use Rattle.sketch.specs.Involved.{no_line}
-use Rattle.sketch.specs.Kinds.{fields_of, measured_fields}
-use Rattle.sketch.specs.Made.{point_no, line_no, equation_from, measure_from, Stands, Row, row_fields}
+use Rattle.sketch.specs.Kinds.{Sort, fields_of, measured_fields}
+use Rattle.sketch.specs.Made.{point_no, line_no, equation_of, measure_of, Stands, Row}
 use Rattle.sketch.specs.declared.Active.{Active}
 use Rattle.sketch.specs.declared.Build.{Build}
 use Rattle.sketch.specs.declared.Contact.{Contact}
@@ -15,7 +15,6 @@ use Rattle.sketch.specs.declared.Line.{Line}
 use Rattle.sketch.specs.declared.Measured.{Measured}
 use Rattle.sketch.specs.declared.Point.{Point}
 use Rattle.sketch.specs.declared.Rad.{Rad}
-use Rattle.sketch.specs.declared.Sort.{Sort}
 use Rattle.sketch.specs.declared.State.{State}
 use Rattle.grammar.specs.Job.{Axis, axis_x, axis_y, Sign, plus, minus, Radius, by_point, plain, Touch, outside, inside, Content, Contents, Place, Standing, free, kept, placed, PointItem, LineItem, EquationItem, MeasureItem, Job}
 
@@ -67,10 +66,10 @@ abbrev pub line_of : LineItem → Line
 line_of l = record { from = point_no l.from; to = point_no l.to }
 
 abbrev pub active_of : EquationItem → Active
-active_of e = let l = fields_of e.kind in record { equation = equation_from e.kind (row_fields l (means_of l e.contents)) }
+active_of e = record { equation = equation_of e.kind (means_of (fields_of e.kind) e.contents) }
 
 abbrev pub measured_of : MeasureItem → Measured
-measured_of m = let l = measured_fields m.gauge in record { measure = measure_from m.gauge (row_fields l (means_of l m.contents)) }
+measured_of m = record { measure = measure_of m.gauge (means_of (measured_fields m.gauge) m.contents) }
 
 abbrev pub build_of : Job → Build
 build_of j = record {

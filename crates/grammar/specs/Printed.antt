@@ -1,8 +1,7 @@
 -- The text of a job (document 01, "The text"): lines `key=value`, each ended by a newline; no spaces.
 use Rattle.std.specs.Prelude.{List, [], ◌∷◌, ◌++◌, ℕ}
 use Rattle.phrases.specs.Kinds.{name_of}
-use Rattle.sketch.specs.Kinds.{fields_of, kind_of, measured_fields}
-use Rattle.sketch.specs.declared.Sort.{Sort}
+use Rattle.sketch.specs.Kinds.{Sort, fields_of, kind_of, measured_fields}
 use Rattle.spelling.specs.Letters.{ascii}
 use Rattle.spelling.specs.Printed.{whole_text, float_text}
 use Rattle.grammar.specs.Job.{Axis, axis_x, axis_y, Sign, plus, minus, Radius, by_point, plain, Touch, outside, inside, Content, Contents, Place, Standing, free, kept, placed, PointItem, LineItem, EquationItem, MeasureItem, Counts, counts_of, Job}

@@ -5,9 +5,9 @@
 
 ghost use Rattle.grammar.specs.Form.{ReadsForm};
 
-use text::Reading;
+use sketch::{Build, Ending};
 
-pub fn read(s: &[u8]) -> Reading
+pub fn read(s: &[u8]) -> Result<Build, Ending>
     ensures { ReadsForm s.now result }
 {
     text::read(s)

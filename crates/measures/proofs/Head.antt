@@ -1,15 +1,14 @@
 -- A list while the images of another's elements go to its head, and once as many of them are there as there is room for.
 -- Assumes nothing.
-use Prim.Native.Nat.{ℕ, zero, suc, ◌+◌, ◌≤◌, ◌<◌, min}
+use Prim.Native.Nat.{ℕ, zero, suc, ◌≤◌, ◌<◌, min}
 use mathlib.Core.List.{List, [], ◌∷◌, ◌++◌, map}
-use mathlib.Core.Path.{◌≡◌, refl, sym, ap, ◌∙◌}
+use mathlib.Core.Path.{◌≡◌, refl, ap, ◌∙◌}
 use native.Mathlib.Decide.{dec_lt}
 use native.Mathlib.Omega.{arith}
 use lib.Ieee.{Float}
-use lib.ListN.{length, get_or, take, drop, set, length-take, length-map, drop_of_length-le}
-use lib.Seq.{get_or-take, take_all}
+use lib.ListN.{length, take, drop, length-map, drop_of_length-le}
+use lib.Seq.{take_all}
 use Rattle.floats.specs.Lists.{copied_of}
-use Rattle.loops.proofs.Writes.{into_next}
 
 module _ {A B : Type 0} (g : A → B) where
   taken : (n : ℕ) (l : List A) → map g (take n l) ≡ take n (map g l)
@@ -18,11 +17,6 @@ module _ {A B : Type 0} (g : A → B) where
   taken (suc n) (x ∷ l) = ap {B = List B} (λ r. g x ∷ r) (taken n l)
 
 module _ {A : Type 0} (g : A → Float) (l : List A) (t : List Float) where
-  pub head-next : (n : ℕ) (d : A) (s : List Float) (i : ℕ) (v : Float) → i < length (take n l) → i < length t → v ≡ g (get_or l i d)
-      → s ≡ map g (take i (take n l)) ++ drop i t → set s i v ≡ map g (take (i + 1) (take n l)) ++ drop (i + 1) t
-  head-next n d s i v h k e q =
-      into_next g d (take n l) t s i v h k (e ∙ ap g (sym (get_or-take n l i d (omega (arith, length-take n l))))) q
-
   pub head_done : (s : List Float) (i : ℕ) → i ≡ min (length l) (length t) → s ≡ map g (take i l) ++ drop i t → s ≡ copied_of (map g l) t
   head_done s i e q = q ∙ rw (taken g i l) (go (dec_lt (length t) (length l)))
     where

@@ -6,7 +6,7 @@ use Rattle.std.specs.Float.Ieee.{of_bits, add, sub, mul, div, neg}
 use Rattle.floats.specs.Ops.{one, one⁻, two}
 use Rattle.loops.specs.Turns.{turns, up_to}
 use Rattle.plate.specs.Scale.{scale_at, all_scaled_of, self_at}
-use Rattle.rows.specs.Kinds.{rows_of_equation, axis_distance_of}
+use Rattle.rows.specs.Kinds.{rows_of_equation}
 use Rattle.rows.specs.Located.{at_of}
 use Rattle.sketch.specs.Blank.{blank_point, sample}
 use Rattle.sketch.specs.declared.Build.{Build}
@@ -38,5 +38,5 @@ abbrev 2·0⁻ : Float
 
 -- the third place of the output is no measure's
 pub along-axes : (z : Float) → measured_in build (one ∷ 5·0 ∷ 4·0 ∷ 7·0 ∷ []) (z ∷ z ∷ z ∷ []) ≡ 3·0 ∷ 2·0⁻ ∷ z ∷ []
-unfolding turns up_to rows_of_equation axis_distance_of at_of gauge_of gauged_of measured_in scale_at all_scaled_of self_at of_bits add sub mul div neg
+unfolding turns up_to rows_of_equation at_of gauge_of gauged_of measured_in scale_at all_scaled_of self_at of_bits add sub mul div neg
 along-axes z = refl

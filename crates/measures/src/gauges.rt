@@ -1,10 +1,12 @@
 // Each measure is its dimension's equation with the value 0, back in the build's size.
-ghost use Rattle.std.specs.Prelude.{map, ◌≡◌, take};
+ghost use Rattle.std.specs.Prelude.{map, ◌≡◌};
 ghost use Rattle.floats.specs.Lists.{copied_of};
 ghost use Rattle.measures.specs.Gauges.{equation_of, gauge_of, measured_in};
+ghost use Rattle.measures.specs.Inside.{first_of};
 
-use loops::smaller;
 use plate::{in_order, scaled};
+use rows::answer::Values;
+use rows::{Located, ends_of};
 use sketch::{Build, Equation, Line, Measure, Measured};
 
 fn equation(m: Measure) -> Equation
@@ -19,47 +21,44 @@ fn equation(m: Measure) -> Equation
     }
 }
 
-fn gauge(m: Measured, lines: [Line; 40], places: &[u8], x: &[f64], size: f64) -> f64
-    ensures { result ≡ gauge_of lines places.now x.now size m }
+// The first residual: a dimension's equation has the one.
+fn first(r: Values) -> f64
+    ensures { result ≡ first_of r }
 {
-    let measure = m.measure;
-    let e = equation(measure);
-    let named = rows::lines_of(e);
-    let first = rows::place_of(named.first);
-    let second = rows::place_of(named.second);
-    let ends = rows::ends_of(named, lines[first], lines[second]);
-    let v = rows::values(e, ends, places, x);
-    floats::handed_out(v.first * size)
+    match r {
+        Values::None => 0.0,
+        Values::One(v) | Values::Two(v, _) => v,
+    }
 }
 
-// As many of the first n measures as there is room for.
-fn gauge_all(
-    measures: [Measured; 20],
-    n: usize,
-    lines: [Line; 40],
-    places: &[u8],
-    x: &[f64],
-    size: f64,
-    out: &mut [f64],
-)
-    ensures { out.new ≡ copied_of (map (gauge_of lines places.now x.now size) (take n measures)) out.old }
+fn gauge(m: &Measured, lines: &[Line], points: Located<'_>, size: f64) -> f64
+    ensures { result ≡ gauge_of lines.now points.entry.places.now points.entry.x.now size m.now }
 {
-    let k = smaller(smaller(n, 20), out.len());
-    for i in 0..k {
-        let m = measures[i];
-        out[i] = gauge(m, lines, places, x, size);
+    let e = equation(m.measure);
+    let r = rows::values(e, ends_of(e, lines), points);
+    floats::handed_out(first(r) * size)
+}
+
+// As many of the measures as there is room for.
+fn gauge_all(measures: &[Measured], lines: &[Line], points: Located<'_>, size: f64, out: &mut [f64])
+    ensures { out.new ≡ copied_of (map (gauge_of lines.now points.entry.places.now points.entry.x.now size) measures.now) out.old }
+{
+    // By index: what iter_mut writes no proof knows afterwards.
+    for i in 0..measures.len().min(out.len()) {
+        out[i] = gauge(&measures[i], lines, points, size);
     }
 }
 
 // The measures of a build at the points x, y, x, y, .., one after another at the head of out.
-pub fn measures(b: Build, points: &[f64], out: &mut [f64])
-    ensures { out.new ≡ measured_in b points.now out.old }
+#[tactic(auto, unfolding(crate::specs::Gauges::gauged_of, crate::specs::Gauges::measured_in))]
+pub fn measures(b: &Build, points: &[f64], out: &mut [f64])
+    ensures { out.new ≡ measured_in b.now points.now out.old }
 {
-    let n = smaller(b.point_count, 40);
-    let centre = b.centre;
-    let x = scaled(centre, b.size, points, b.point_count);
+    let x = scaled(b.centre, b.size, points, b.point_count);
     let places = in_order();
-    let all = b.measures;
-    let lines = b.lines;
-    gauge_all(all, b.measure_count, lines, &places[..n], &x, b.size, out);
+    let here = Located {
+        places: &places[..b.point_count.min(40)],
+        x: &x,
+    };
+    gauge_all(b.measures(), &b.lines, here, b.size, out);
 }

@@ -2,12 +2,11 @@
 -- whole. Assumes nothing.
 use Prim.Native.Nat.{ℕ, suc, ◌+◌, ◌-◌, ◌≤◌, ◌<◌}
 use mathlib.Core.List.{List, [], ◌∷◌, ◌++◌, append-nil, append_assoc}
-use mathlib.Core.Path.{◌≡◌, refl, sym, ap, ◌∙◌}
-use native.Mathlib.Nat.{sub-zero}
+use mathlib.Core.Path.{◌≡◌, sym, ap, ◌∙◌}
 use native.Mathlib.Omega.{arith}
-use lib.ListN.{length, set, replicate, length-append}
+use lib.ListN.{length, set, length-append}
 use lib.Seq.{set-append_seam}
-use Rattle.members.specs.Lists.{headed, none_in, Lists, pushed_of}
+use Rattle.members.specs.Lists.{headed, Lists, pushed_of}
 use Rattle.members.specs.declared.Listed.{Listed}
 
 pub record Heads (n : ℕ) (items : List ℕ) (count : ℕ) (rest whole : List ℕ) : Type 0 where
@@ -23,9 +22,6 @@ headed-next : (n : ℕ) (l : List ℕ) (v : ℕ) → length l < n → set (heade
 headed-next n l v h =
     let e : n - length l ≡ suc (n - length (l ++ v ∷ [])) = omega (arith, longer l v) in
     rw (e, set-append_seam, append_assoc)
-
-heads-start : (n : ℕ) (whole : List ℕ) → Heads n (replicate n 0) 0 whole whole
-heads-start n whole = record { front = []; stands = rw sub-zero; counted = refl; adds = refl }
 
 heads-push : (n : ℕ) (items : List ℕ) (count v : ℕ) (rest whole : List ℕ) → count < n → Heads n items count (v ∷ rest) whole → Heads n (set items count v) (count + 1) rest whole
 heads-push n items count v rest whole h t = record {
@@ -49,9 +45,6 @@ module _ (n : ℕ) (items : List ℕ) (count : ℕ) (whole : List ℕ) (t : Head
 module _ {n : ℕ} where
   abbrev pub Pushed : Listed n → List ℕ → List ℕ → Type 0
   Pushed r rest whole = Heads n r.items r.count rest whole
-
-  pub pushed_start : (r : Listed n) (whole : List ℕ) → r ≡ none_in n → Pushed r whole whole
-  pushed_start r whole e = rw e (heads-start n whole)
 
   pub pushed-next : (v : ℕ) (r r' : Listed n) (rest whole : List ℕ) → r.count < n → r' ≡ pushed_of v r → Pushed r (v ∷ rest) whole
       → Pushed r' rest whole

@@ -7,6 +7,7 @@
 
 mod diagonal;
 mod half;
+mod jacobian;
 mod spread;
 mod step;
 

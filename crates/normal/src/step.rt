@@ -1,41 +1,29 @@
 // The step: the free coordinates less the Jacobian's transpose times y.
-ghost use Rattle.std.specs.Prelude.{◌≡◌, ◌*◌, ◌≤◌, ◌<◌, length};
-ghost use Rattle.normal.specs.Normal.{step_of, move_one, moved_of};
+ghost use Rattle.std.specs.Prelude.{◌≡◌, ◌≤◌, ◌<◌, length};
+ghost use Rattle.normal.specs.Normal.{move_one, moved_of};
 ghost use Rattle.normal.specs.Promise.{Moves};
 
+use crate::jacobian::Jacobian;
 use slices::Refusal;
 
-#[tactic(auto, using(loops::proofs::Cells::cells))]
-fn step_of(j: &[f64], y: &[f64], rows: usize, nf: usize, c: usize) -> f64
-    requires { (c < nf) × (rows * nf ≤ length j.now) × (rows ≤ length y.now) }
-    ensures { result ≡ step_of rows nf j.now y.now c }
-{
-    let mut s = -0.0;
-    for i in 0..rows {
-        s += j[i * nf + c] * y[i];
-    }
-    s
-}
-
 // Coordinate free[c] less its part of the step.
-fn move_one(j: &[f64], y: &[f64], free: &[usize], x: &mut [f64], rows: usize, nf: usize, c: usize)
-    requires { (c < nf) × (rows * nf ≤ length j.now) × (rows ≤ length y.now) × (nf ≤ length free.now) }
-    ensures { x.new ≡ move_one rows nf j.now y.now free.now c x.old }
+fn move_one(j: &Jacobian, y: &[f64], free: &[usize], x: &mut [f64], c: usize)
+    requires { (c < j.now.columns) × (j.now.rows ≤ length y.now) × (j.now.columns ≤ length free.now) }
+    ensures { x.new ≡ move_one j.now.rows j.now.columns j.now.numbers.now y.now free.now c x.old }
 {
-    let s = step_of(j, y, rows, nf, c);
+    let s = j.step_of(y, c);
     let at = free[c];
     if at < x.len() {
         x[at] -= s;
     }
 }
 
-#[tactic(auto, using(loops::proofs::Cells::cells))]
-fn move_all(j: &[f64], y: &[f64], free: &[usize], x: &mut [f64], rows: usize, nf: usize)
-    requires { (rows * nf ≤ length j.now) × (rows ≤ length y.now) × (nf ≤ length free.now) }
-    ensures { x.new ≡ moved_of rows nf j.now y.now free.now x.old }
+fn move_all(j: &Jacobian, y: &[f64], free: &[usize], x: &mut [f64])
+    requires { (j.now.rows ≤ length y.now) × (j.now.columns ≤ length free.now) }
+    ensures { x.new ≡ moved_of j.now.rows j.now.columns j.now.numbers.now y.now free.now x.old }
 {
-    for c in 0..nf {
-        move_one(j, y, free, x, rows, nf, c);
+    for c in 0..j.columns {
+        move_one(j, y, free, x, c);
     }
 }
 
@@ -56,6 +44,11 @@ pub fn moved(
     if j.len() < rows * nf || y.len() < rows || free.len() < nf {
         return Err(Refusal::TooShort);
     }
-    move_all(j, y, free, x, rows, nf);
+    let j = Jacobian {
+        numbers: j,
+        rows,
+        columns: nf,
+    };
+    move_all(&j, y, free, x);
     Ok(())
 }

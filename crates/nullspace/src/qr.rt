@@ -14,7 +14,6 @@ struct Column {
 }
 
 // What is left of column `j` from `k` on.
-#[tactic(auto, using(loops::proofs::Cells::cells))]
 fn norm_from(t: &[f64], n: usize, k: usize, j: usize) -> f64
     requires { (k < n) × (j * n + n ≤ length t.now) }
     ensures { result ≡ norm_at n k t.now j }
@@ -58,7 +57,6 @@ fn is_ended(first: f64, norm: f64) -> bool
     norm <= first * 1e-10 || norm == 0.0
 }
 
-#[tactic(auto, using(loops::proofs::Cells::cells))]
 fn swap_head(t: &mut [f64], n: usize, p: usize)
     requires { p * n + n ≤ length t.old }
     ensures { t.new ≡ up_to n 0 (swap_head n p) t.old }

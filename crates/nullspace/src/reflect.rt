@@ -4,7 +4,6 @@ ghost use Rattle.solver.specs.Sums.{norm2_of};
 ghost use Rattle.nullspace.specs.Steps.{dot_of, reflect_of};
 ghost use Rattle.nullspace.specs.Layout.{dot_at, reflect_at, reflected_by};
 
-#[tactic(auto, using(loops::proofs::Cells::cells))]
 fn dot_row(t: &[f64], n: usize, j: usize) -> f64
     requires { j * n + n ≤ length t.now }
     ensures { result ≡ dot_at n j t.now }

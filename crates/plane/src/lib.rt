@@ -46,6 +46,7 @@ pub fn cross(a: Vec2, b: Vec2) -> f64
     a.x * b.y - a.y * b.x
 }
 
+#[tactic(auto, unfolding(crate::specs::Vectors::norm_of))]
 pub fn norm(a: Vec2) -> f64
     ensures { result ≡ norm_of a }
 {
@@ -53,6 +54,7 @@ pub fn norm(a: Vec2) -> f64
 }
 
 // The unit vector from a to b, and the distance.
+#[tactic(auto, unfolding(crate::specs::Vectors::unit_from_of))]
 pub fn unit_from(a: Vec2, b: Vec2) -> Dir
     ensures { result ≡ unit_from_of a b }
 {
@@ -69,6 +71,7 @@ pub fn unit_from(a: Vec2, b: Vec2) -> Dir
 
 // The gradient with respect to the far end of a unit vector w of a difference of length len, given the gradient gw with
 // respect to w.
+#[tactic(auto, unfolding(crate::specs::Vectors::across_of))]
 pub fn across(w: Vec2, gw: Vec2, len: f64) -> Vec2
     ensures { result ≡ across_of w gw len }
 {

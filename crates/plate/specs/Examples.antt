@@ -7,10 +7,10 @@ use Rattle.std.specs.Float.Ieee.{of_bits, add, sub, mul, div, neg, lt, is_nan}
 use Rattle.floats.specs.Largest.{larger_abs, max_abs_of}
 use Rattle.floats.specs.Magnitude.{max_of}
 use Rattle.floats.specs.Ops.{zero⁺, one, two}
-use Rattle.loops.specs.Turns.{turns, up_to, fold}
+use Rattle.loops.specs.Turns.{turns, up_to}
 use Rattle.plane.specs.Vectors.{norm_of, unit_from_of}
 use Rattle.root.specs.Root.{sqrt_of}
-use Rattle.rows.specs.Kinds.{rows_of_equation, coincident_of, parallel_of}
+use Rattle.rows.specs.Kinds.{rows_of_equation}
 use Rattle.rows.specs.Located.{at_of}
 use Rattle.sketch.specs.Blank.{blank_point, sample}
 use Rattle.sketch.specs.declared.Build.{Build}
@@ -36,10 +36,10 @@ no_row points = refl
 
 -- (1, 5) and (2, 9) lie half a unit apart along x and two along y
 pub second-row : worst_of (build (Equation.Coincident (record { 0 = 0 }) (record { 0 = 1 }))) (one ∷ 5·0 ∷ two ∷ 9·0 ∷ []) ≡ two
-unfolding turns up_to flat_map residuals_of worst_of max_abs_of larger_abs max_of rows_of_equation coincident_of at_of scale_at all_scaled_of self_at of_bits add sub mul div neg lt is_nan
+unfolding turns up_to flat_map residuals_of worst_of max_abs_of larger_abs max_of rows_of_equation at_of scale_at all_scaled_of self_at of_bits add sub mul div neg lt is_nan
 second-row = refl
 
 -- the line has no direction, so whether it is parallel to itself is not a number
 pub not-finite : worst_of (build (Equation.Parallel (record { 0 = 0 }) (record { 0 = 0 }))) (one ∷ one ∷ one ∷ one ∷ []) ≡ inf false
-unfolding turns up_to flat_map residuals_of worst_of max_abs_of larger_abs max_of rows_of_equation parallel_of unit_from_of norm_of sqrt_of at_of scale_at all_scaled_of self_at of_bits add sub mul div neg lt is_nan
+unfolding turns up_to flat_map residuals_of worst_of max_abs_of larger_abs max_of rows_of_equation unit_from_of norm_of sqrt_of at_of scale_at all_scaled_of self_at of_bits add sub mul div neg lt is_nan
 not-finite = refl

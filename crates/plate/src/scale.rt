@@ -2,7 +2,6 @@
 ghost use Rattle.std.specs.Prelude.{◌≡◌, ◌<◌, min};
 ghost use Rattle.plate.specs.Scale.{scale_at, all_scaled_of, in_order};
 
-use loops::smaller;
 use plane::Vec2;
 
 // The two coordinates of point p.
@@ -10,23 +9,22 @@ fn scale(x: &mut [f64], p: usize, centre: Vec2, size: f64, points: &[f64])
     requires { p < 40 }
     ensures { x.new ≡ scale_at centre size points.now p x.old }
 {
-    let at = 2 * p;
     let q = Vec2 {
-        x: floats::get(points, at),
-        y: floats::get(points, at + 1),
+        x: slices::get_or(points, 2 * p, f64::NAN),
+        y: slices::get_or(points, 2 * p + 1, f64::NAN),
     };
     let s = plane::in_units(centre, size, q);
-    floats::put(x, at, s.x);
-    floats::put(x, at + 1, s.y);
+    slices::put(x, 2 * p, s.x);
+    slices::put(x, 2 * p + 1, s.y);
 }
 
 // The first n points, and at most 40.
 pub fn scaled(centre: Vec2, size: f64, points: &[f64], n: usize) -> [f64; 80]
     ensures { result ≡ all_scaled_of centre size (min n 40) points.now }
 {
-    let k = smaller(n, 40);
     let mut x = [0.0; 80];
-    for p in 0..k {
+    // By index: a point's two places are written together, and what iter_mut writes no proof knows afterwards.
+    for p in 0..n.min(40) {
         scale(&mut x, p, centre, size, points);
     }
     x

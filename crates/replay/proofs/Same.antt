@@ -1,10 +1,11 @@
 -- Two lists of bytes are the same exactly when they are equal. Assumes nothing.
-use mathlib.Core.Bool.{Bool, true, false}
+use mathlib.Core.Bool.{true}
 use mathlib.Core.List.{List, [], ◌∷◌}
-use mathlib.Core.Path.{◌≡◌, refl, sym}
+use mathlib.Core.Path.{◌≡◌, refl}
 use Prim.Native.Nat.{ℕ}
 use borrow.Author.Tests.{eqb-true, eq-eqb}
 use lib.Dec.{eqb}
+use lib.Pointwise.{pointwise}
 use Rattle.loops.proofs.Picks.{both}
 use Rattle.replay.specs.Judged.{same_bytes}
 
@@ -20,11 +21,10 @@ unfolding same_bytes
 same-itself [] = refl
 same-itself (x ∷ a) = rw (eq-eqb x x refl) (same-itself a)
 
--- what a test of two lists says if it is true for equal ones and for no others
-pub same-exactly : (r : Bool) (a b : List ℕ) → (r ≡ true → a ≡ b) → (a ≡ b → r ≡ true) → r ≡ same_bytes a b
-same-exactly true a b f g = rw (f refl) (sym (same-itself b))
-same-exactly false a b f g = unequal (same_bytes a b) refl
-  where
-    unequal : (t : Bool) → same_bytes a b ≡ t → false ≡ t
-    unequal true e = g (same-sound a b e)
-    unequal false e = refl
+-- what `==` answers at two slices
+pub same-compared : (a b : List ℕ) → pointwise eqb a b ≡ same_bytes a b
+unfolding same_bytes
+same-compared [] [] = refl
+same-compared [] (y ∷ b) = refl
+same-compared (x ∷ a) [] = refl
+same-compared (x ∷ a) (y ∷ b) = rw (same-compared a b)

@@ -32,18 +32,14 @@ fn fill(file: &mut File, pack: &mut [u8]) -> io::Result<usize>
 
 // Counts the records of jobs.pack in the room that is lent for it. A pack that fills it may have more than was read.
 fn replay(rt: HostRuntime, pack: &mut [u8; 524288]) -> io::Result<()> {
-    match File::open(&rt, "jobs.pack") {
-        Ok(file) => {
-            let mut file = file;
-            let n = fill(&mut file, pack)?;
-            if n == 524288 {
-                return cannot(rt, "is longer than the room for it");
-            }
-            let t = tally::count(rt, &pack[..n]);
-            outcome(rt, t, n)
-        }
-        Err(_e) => cannot(rt, "cannot be opened"),
+    let Ok(mut file) = File::open(&rt, "jobs.pack") else {
+        return cannot(rt, "cannot be opened");
+    };
+    let n = fill(&mut file, pack)?;
+    if n == pack.len() {
+        return cannot(rt, "is longer than the room for it");
     }
+    outcome(rt, tally::count(rt, &pack[..n]), n)
 }
 
 fn main(rt: HostRuntime) -> io::Result<()> {

@@ -1,7 +1,6 @@
 -- A square taken by halves of 23 bits, and what a test of it says of the whole square. Assumes nothing.
 use mathlib.Core.Path.{◌≡◌, ap}
 use Prim.Native.Nat.{ℕ, ◌+◌, ◌*◌, ◌/◌, ◌%◌, ◌^◌, ◌≤◌, ◌<◌}
-use native.Mathlib.Nat.{mul-le-mul}
 use native.Mathlib.Omega.{arith}
 
 -- the two halves, high and low
@@ -10,16 +9,6 @@ hi z = z / 8388608
 
 abbrev lo : ℕ → ℕ
 lo z = z % 8388608
-
-module _ (z : ℕ) (small : z ≤ 2 ^ 54 + 1) where
-  hi-le : hi z ≤ 2147483648
-  hi-le = omega arith
-
-  lo-le : lo z ≤ 8388607
-  lo-le = omega arith
-
-  pub parts : (hi z * hi z ≤ 4611686018427387904) × (hi z * lo z ≤ 18014396361998336) × (lo z * lo z ≤ 70368727400449)
-  parts = (mul-le-mul hi-le hi-le, mul-le-mul hi-le lo-le, mul-le-mul lo-le lo-le)
 
 pub by-halves : (z : ℕ) → hi z * hi z + (2 * hi z * lo z + lo z * lo z / 8388608) / 8388608 ≡ z * z / 2 ^ 46
 by-halves z =
@@ -32,8 +21,3 @@ square-over z t f e h = omega arith
 
 pub square-under : (z t f : ℕ) → f ≡ z * z / 2 ^ 46 → t ≤ f → t * 2 ^ 46 ≤ z * z
 square-under z t f e h = omega arith
-
-pub square-small : (z f : ℕ) → f ≡ z * z / 2 ^ 46 → z ≤ 2 ^ 54 → f ≤ 2 ^ 62
-square-small z f e h =
-    let s : z * z ≤ 2 ^ 54 * 2 ^ 54 = mul-le-mul h h in
-    omega arith

@@ -17,11 +17,6 @@ square-lt a b h = lt_of_not-le (λ (g : b ≤ a). no (b * b) (a * a) (mul-le-mul
     no : (m n : ℕ) → m ≤ n → n < m → ⊥
     no m n g h = omega arith
 
-pub over-small : (t r : ℕ) → t < 2 ^ 62 → Over t r → r ≤ 2 ^ 53
-over-small t r h o =
-    let s : 2 * r - 1 < 2 ^ 54 = square-lt (2 * r - 1) (2 ^ 54) (omega arith) in
-    omega arith
-
 -- t is at most 2 ^ 9 times an m below 2 ^ 53, and then the root does not reach the next exponent
 pub root-small : (t r : ℕ) → t ≤ 2 ^ 62 - 2 ^ 9 → Over t r → r < 2 ^ 53
 root-small t r h o =
@@ -38,11 +33,6 @@ pub up : (n r : ℕ) → (2 * r + 1) * (2 * r + 1) < n → (2 * (r + 1) - 1) * (
 up n r h =
     let e : 2 * r + 1 ≡ 2 * (r + 1) - 1 = omega arith in
     subst (λ (z : ℕ). z * z < n) e h
-
-pub down : (t r : ℕ) → 1 ≤ r → t * 2 ^ 46 ≤ (2 * r - 1) * (2 * r - 1) → Under t (r - 1)
-down t r p h =
-    let e : 2 * r - 1 ≡ 2 * (r - 1) + 1 = omega arith in
-    no_tie t (r - 1) (subst (λ (z : ℕ). t * 2 ^ 46 ≤ z * z) e h)
 
 -- every n above 0 stands between the squares of two halfway points
 between : (n : ℕ) → (r : ℕ) × ((2 * r - 1) * (2 * r - 1) < suc n) × (suc n ≤ (2 * r + 1) * (2 * r + 1))

@@ -99,7 +99,7 @@ fn root(m: u64, k: u64) -> f64
     let t = m * 256 * (odd + 1);
     // One less in the last place: the guess is then the root or one below it, and seldom one above.
     let g = guess(1020 * FIELD + odd * FIELD + m - 1);
-    let r = settle(t, f64::to_bits(g) % (2 * FIELD));
+    let r = settle(t, g.to_bits() % (2 * FIELD));
     f64::from_bits(k / 2 * FIELD + r)
 }
 
@@ -108,7 +108,7 @@ fn tiny(b: u64) -> f64
     requires { (0 < b) × (b < 2 ^ 52) }
     ensures { result ≡ of_bits binary64 (root_bits (b * 2 ^ 1076)) }
 {
-    let z = u64::leading_zeros(b) as u64;
+    let z = b.leading_zeros() as u64;
     root(b << (z - 11), 1033 - z)
 }
 
@@ -116,10 +116,11 @@ fn tiny(b: u64) -> f64
 pub fn sqrt(x: f64) -> f64
     ensures { result ≡ sqrt_of x }
 {
-    if x != x {
-        return 0.0 / 0.0;
+    if x.is_nan() {
+        return f64::NAN;
     }
-    let b = f64::to_bits(x);
+    // Tests in this order and no match, which asks for its literals before the range that nearly every x is in.
+    let b = x.to_bits();
     let e = b / FIELD;
     if e == 0 {
         if b == 0 {
@@ -133,5 +134,5 @@ pub fn sqrt(x: f64) -> f64
     if b == INFINITE {
         return x;
     }
-    if b == MINUS_ZERO { x } else { 0.0 / 0.0 }
+    if b == MINUS_ZERO { x } else { f64::NAN }
 }

@@ -3,12 +3,12 @@ use Prim.Native.Nat.{ℕ, zero, suc, ◌+◌, ◌*◌, ◌≤◌, ◌<◌}
 use mathlib.Core.Bool.{Bool, true, false, cond}
 use mathlib.Core.List.{List, [], ◌∷◌, ◌++◌, map, flat_map, append-nil, append_assoc}
 use mathlib.Core.Path.{◌≡◌, refl, sym, ap, ◌∙◌}
-use native.Mathlib.Nat.{add-zero, zero-add, add_assoc, add_comm, sub-zero, zero-mul, one-mul, suc-mul, add-mul}
+use native.Mathlib.Nat.{add-zero, zero-add, add_assoc, add_comm, sub-zero, zero-mul, one-mul, le_refl, suc-mul, add-mul}
 use native.Mathlib.Omega.{arith}
 use borrow.Author.Tests.{le-ltb, ltb-true}
 use lib.Dec.{ltb}
 use lib.Ieee.{Float, nan}
-use lib.ListN.{length, get_or, set, drop, replicate, length-append, length-drop, length-set, length-map, length-replicate, get_or-append}
+use lib.ListN.{length, get_or, set, drop, replicate, length-append, length-drop, length-set, length-map, length-replicate, get_or-append, drop_of_length-le}
 use lib.Seq.{set-append_left, set_at, drop-drop}
 use Rattle.floats.specs.Ops.{◌⊕◌, zero⁺}
 use Rattle.loops.proofs.Parts.{get-past, set_past}
@@ -88,10 +88,10 @@ module _ (es : List Active) (ls : List Line) (places chosen : List ℕ) (x : Lis
   unfolding rows_for
   all-values s = fold-parts next_value (rows_at es ls places x) (values_next es ls places x) (values-turn es ls places x) chosen s
 
-  pub column-is : (r : List Float) → length chosen ≤ 40 → row_count es chosen ≤ length r
+  pub column_is : (r : List Float) → length chosen ≤ 40 → row_count es chosen ≤ length r
       → column_of es ls places x chosen r ≡ laid (row_count es chosen) (values_at es ls places chosen x ++ drop (row_count es chosen) r)
   unfolding column_of values_at
-  column-is r few room =
+  column_is r few room =
       let rows = rows_for es ls places chosen x in
       let h : length rows ≤ length r = rw rows-counted room in
       rw (le-ltb 40 (length chosen) few)
@@ -224,3 +224,11 @@ module _ (es : List Active) (ls : List Line) (places columns chosen : List ℕ) 
       let h : length rows * n ≤ length j = rw (rows-counted es ls places chosen x) room in
       rw (le-ltb 40 (length chosen) few, le-ltb 80 n narrow)
       (all-rows (laid 0 j) ∙ table-laid places columns n rows 0 [] j (sym (zero-mul n)) h ∙ rw (zero-add, rows-counted es ls places chosen x))
+
+  -- in a slice of the very length
+  pub whole_table : (j : List Float) → length chosen ≤ 40 → n ≤ 80 → length j ≡ row_count es chosen * n
+      → jacobian_of es ls places x columns n chosen j ≡ laid (row_count es chosen) (jacobian_at es ls places chosen columns n x)
+  whole_table j few narrow long =
+      let room : row_count es chosen * n ≤ length j = rw long (le_refl _) in
+      let full : length j ≤ row_count es chosen * n = rw long (le_refl _) in
+      table_is j few narrow room ∙ rw (drop_of_length-le j full, append-nil)

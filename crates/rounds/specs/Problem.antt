@@ -1,6 +1,6 @@
 -- The problem that chosen equations pose: equations.rs, `residuals`, and solver.rs, `dense`, as lists. `chosen` are the numbers of
 -- the equations, `places` and `columns` the tables of a point's place in the group and of a coordinate's among the free ones.
-use Rattle.std.specs.Prelude.{ℕ, ◌+◌, Float, replicate}
+use Rattle.std.specs.Prelude.{ℕ, ◌+◌, true, false, Float, replicate, Result, Ok, Err}
 use mathlib.Core.List.{List, map, flat_map}
 use Rattle.floats.specs.Ops.{zero⁺}
 use Rattle.loops.specs.Turns.{fold}
@@ -13,7 +13,6 @@ use Rattle.sketch.specs.declared.Active.{Active}
 use Rattle.sketch.specs.declared.Line.{Line}
 use Rattle.rounds.specs.Solve.{Problem, State, Tried}
 use Rattle.rounds.specs.declared.Fit.{Fit}
-use Rattle.rounds.specs.declared.Attempted.{Attempted}
 
 -- the Rust's `r.len()`, which the coordinates have no part in
 unfoldable pub more_rows : List Active → ℕ → ℕ → ℕ
@@ -53,5 +52,7 @@ state_of x r f = record {
   why = f.why;
 }
 
-abbrev pub tried_of : List Float → List Float → Attempted → Tried
-tried_of x r t = record { improved = t.improved; state = state_of x r t.fit }
+-- a try, or a round's tries: where one that was taken leaves the fit, or where it stands if none was
+abbrev pub tried_of : List Float → List Float → Result Fit Fit → Tried
+tried_of x r (Ok f) = record { improved = true; state = state_of x r f }
+tried_of x r (Err f) = record { improved = false; state = state_of x r f }

@@ -1,13 +1,13 @@
 -- Why a fit failed (document 02, K6): the code and the column of each reason, and exactly when each is given. Proved in proofs/Reasons.antt.
-use Rattle.std.specs.Prelude.{ℕ, zero, suc, ◌+◌, ◌≤◌, ◌<◌, Bool, true, false, List, ◌↔◌, ◌≢◌, ◌≡◌, eqb, Float, length}
+use Rattle.std.specs.Prelude.{ℕ, zero, suc, ◌+◌, ◌≤◌, ◌<◌, Bool, true, false, List, ◌↔◌, ◌≢◌, ◌≡◌, eqb, Float, length, Result, Ok, Err}
 use Rattle.loops.specs.Turns.{Try, go, stop, try_to}
 use Rattle.normal.specs.Normal.{product_of, diag_max_of}
 use Rattle.solver.specs.Reasons.{Reasoned, some, no_pivot, not_finite}
 use Rattle.rounds.specs.Solve.{Problem, State, Trial, Tried, failed, max_iter, max_tries, within, better, trial_of, try_of, begun, polished, start_of, round_of, solve_of}
-use Rattle.rounds.specs.declared.FitEnding.{FitEnding}
-use Rattle.rounds.specs.declared.FitEnding.TheVariants.{Converged, Failed, TooMany, TooShort}
 use Rattle.rounds.specs.declared.Reason.{Reason}
 use Rattle.rounds.specs.declared.Reason.TheVariants.{NothingFree, NoPivot, NotFinite, NotLess, Spent}
+use Rattle.rounds.specs.declared.Unfitted.{Unfitted}
+use Rattle.rounds.specs.declared.Unfitted.TheVariants.{Failed, Refused}
 
 -- "a code 1 to 5 in that order and the column counted from 1, or 0 for none"
 abbrev pub code_of : Reason → ℕ
@@ -25,17 +25,15 @@ named_column NotLess = 0
 named_column Spent = 0
 
 -- those of an ending: 0 where the fit did not fail
-abbrev pub code_in : FitEnding → ℕ
-code_in Converged = 0
-code_in (Failed w) = code_of w
-code_in TooMany = 0
-code_in TooShort = 0
+abbrev pub code_in : Result (Unit {0}) Unfitted → ℕ
+code_in (Ok _) = 0
+code_in (Err (Failed w)) = code_of w
+code_in (Err (Refused _)) = 0
 
-abbrev pub named_column_in : FitEnding → ℕ
-named_column_in Converged = 0
-named_column_in (Failed w) = named_column w
-named_column_in TooMany = 0
-named_column_in TooShort = 0
+abbrev pub named_column_in : Result (Unit {0}) Unfitted → ℕ
+named_column_in (Ok _) = 0
+named_column_in (Err (Failed w)) = named_column w
+named_column_in (Err (Refused _)) = 0
 
 module _ (P : Problem) (jacobian : List Float → List Float) where
   -- ---- a round's tries, none of which is taken

@@ -1,106 +1,88 @@
 // One damping attempt: its elimination, and what comes of it where that has an answer.
 ghost use Rattle.std.specs.Prelude.{◌≡◌, ◌*◌, ◌≤◌, ◌<◌, length};
 ghost use Rattle.normal.specs.Half.{triangle, spread_of};
-ghost use Rattle.normal.specs.Normal.{damped_of, moved_of};
+ghost use Rattle.normal.specs.Normal.{damped_of};
 ghost use Rattle.solver.specs.Promise.{Finds};
 ghost use Rattle.solver.specs.Reasons.{some};
-ghost use Rattle.rounds.specs.Inside.{lack_of, trial_made, Shapes, Trying};
-ghost use Rattle.rounds.specs.Problem.{row_count, values_at, state_of, tried_of, problem_of};
-ghost use Rattle.rounds.specs.Solve.{judged, trial_at};
+ghost use Rattle.rounds.specs.Inside.{reason_of, trial_made, problem_in, rows_in, Matrices, Shapes, Trying};
+ghost use Rattle.rounds.specs.Problem.{state_of, tried_of};
+ghost use Rattle.rounds.specs.Solve.{judged, try_of};
 
-use crate::{Attempted, Fit, Reason};
-use sketch::{Active, Line};
-use solver::Elimination;
+use crate::task::Task;
+use crate::{Fit, Reason};
+use solver::Unsolved;
 
-// Why a try came to nothing, by its elimination: with an answer only the cost is left to say. A refusal does not occur, since the shape is the
-// fit's own.
-pub(crate) fn lack(e: Elimination) -> Reason
-    ensures { result ≡ lack_of e }
-{
-    match e {
-        Elimination::Some => Reason::NotLess,
-        Elimination::NoPivot(column) => Reason::NoPivot(column),
-        Elimination::NotFinite => Reason::NotFinite,
-        Elimination::TooMany => Reason::NotFinite,
-        Elimination::TooShort => Reason::NotFinite,
+// The linear system of a round: the Jacobian, the half of its product, and the largest number on the product's diagonal.
+#[derive(Clone, Copy)]
+pub(crate) struct System<'a> {
+    pub(crate) j: &'a [f64],
+    pub(crate) half: &'a [f64],
+    pub(crate) largest: f64,
+}
+
+impl System<'_> {
+    // The step's y for the residuals r, or why there is none: the half is spread into w, damped and eliminated there with r on the right
+    // side.
+    fn step(&self, r: &[f64], w: &mut [f64], y: &mut [f64], mu: f64) -> Result<(), Unsolved>
+        requires { (length r.now ≤ 80) × (triangle (length r.now) ≤ length self.now.half.now) × (length r.now * length r.now ≤ length w.old)
+            × (length y.old ≡ length r.now) }
+        ensures { Finds (length r.now) (damped_of (length r.now) mu self.now.largest (spread_of (length r.now) self.now.half.now)) r.now y.new result }
+    {
+        let rows = r.len();
+        normal::damped(self.half, w, rows, mu, self.largest)?;
+        y.copy_from_slice(r);
+        solver::solve_dense(w, y, rows)
     }
 }
 
-// The step's y: the half h is spread into w, damped and eliminated there with the residuals r on the right side.
-pub(crate) fn eliminated(
-    h: &[f64],
-    r: &[f64],
-    w: &mut [f64],
-    y: &mut [f64],
-    mu: f64,
-    m: f64,
-) -> Elimination
-    requires { (length r.now ≤ 80) × (triangle (length r.now) ≤ length h.now) × (length r.now * length r.now ≤ length w.old) × (length y.old ≡ length r.now) }
-    ensures { Finds (length r.now) (damped_of (length r.now) mu m (spread_of (length r.now) h.now))
-        r.now y.new result }
-{
-    let rows = r.len();
-    normal::damped(h, w, rows, mu, m);
-    floats::copy(r, y);
-    solver::solve_dense(w, y, rows)
-}
+// Why a try came to nothing, by its elimination. A refusal does not occur, since the shape is the fit's own.
+impl From<Unsolved> for Reason {
+    ghost from_gives = { λ e why. why ≡ reason_of e };
 
-// The residuals at x go to r.
-fn values_at(
-    equations: [Active; 40],
-    lines: [Line; 40],
-    chosen: &[usize],
-    places: &[u8],
-    x: &[f64],
-    r: &mut [f64],
-)
-    requires { (length chosen.now ≤ 40) × (length r.old ≡ row_count equations chosen.now) }
-    ensures { r.new ≡ values_at equations lines places.now chosen.now x.now }
-{
-    rows::residuals(equations, lines, chosen, places, x, r);
+    fn from(e: Unsolved) -> Reason {
+        match e {
+            Unsolved::NoPivot(column) => Reason::NoPivot(column),
+            Unsolved::NotFinite | Unsolved::Refused(_) => Reason::NotFinite,
+        }
+    }
 }
 
 // A try is taken where its cost is finite and less; then its coordinates and residuals are the fit's.
-fn judge(x: &mut [f64], r: &mut [f64], xn: &[f64], rn: &[f64], fit: Fit) -> Attempted
+fn judge(x: &mut [f64], r: &mut [f64], xn: &[f64], rn: &[f64], fit: Fit) -> Result<Fit, Fit>
     requires { (length xn.now ≡ length x.old) × (length rn.now ≡ length r.old) × (fit.tries < 4096) }
     ensures { tried_of x.new r.new result ≡ judged (state_of x.old r.old fit) (some (trial_made xn.now rn.now)) }
 {
     let cost = solver::norm2(rn);
     if floats::is_finite(cost) & (cost < fit.cost) {
-        floats::copy(xn, x);
-        floats::copy(rn, r);
-        return Attempted {
-            improved: true,
-            fit: fit.taken(cost),
-        };
-    }
-    Attempted {
-        improved: false,
-        fit: fit.harder(Reason::NotLess),
+        x.copy_from_slice(xn);
+        r.copy_from_slice(rn);
+        Ok(fit.taken(cost))
+    } else {
+        Err(fit.harder(Reason::NotLess))
     }
 }
 
-// The try whose step is in rn: its coordinates go to xn, and their residuals to rn in its place.
+// A try from x and its residuals r: where it leaves the fit if it is taken, or where the fit stands if not. The step lies where the trial's
+// residuals go.
 pub(crate) fn one_try(
-    equations: [Active; 40],
-    lines: [Line; 40],
-    chosen: &[usize],
-    places: &[u8],
-    free: &[usize],
-    j: &[f64],
+    p: &Task<'_>,
+    system: &System<'_>,
     x: &mut [f64],
     r: &mut [f64],
+    w: &mut [f64],
     xn: &mut [f64],
     rn: &mut [f64],
     fit: Fit,
-) -> Attempted
-    requires { Shapes equations chosen.now free.now j.now r.old × Trying x.old r.old xn.old rn.old × (fit.tries < 4096) }
+) -> Result<Fit, Fit>
+    requires { Shapes p.now system.now.j.now r.old × Matrices p.now system.now.half.now w.old × Trying x.old r.old xn.old rn.old × (fit.tries < 4096) }
     ensures { tried_of x.new r.new result
-        ≡ judged (state_of x.old r.old fit) (some (trial_at (problem_of equations lines places.now chosen.now free.now (row_count equations chosen.now))
-        (moved_of (row_count equations chosen.now) (length free.now) j.now rn.old free.now x.old))) }
+        ≡ try_of (problem_in p.now) system.now.j.now (spread_of (rows_in p.now) system.now.half.now) system.now.largest (state_of x.old r.old fit) }
 {
-    floats::copy(x, xn);
-    normal::moved(j, rn, free, xn, r.len(), free.len());
-    values_at(equations, lines, chosen, places, xn, rn);
+    if let Err(e) = system.step(r, w, rn, fit.mu) {
+        return Err(fit.harder(e.into()));
+    }
+    xn.copy_from_slice(x);
+    let _ = normal::moved(system.j, rn, p.free, xn, r.len(), p.free.len());
+    p.values(xn, rn);
     judge(x, r, xn, rn, fit)
 }

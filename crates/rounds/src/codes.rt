@@ -2,50 +2,45 @@
 ghost use Rattle.std.specs.Prelude.{◌≡◌};
 ghost use Rattle.rounds.specs.Reasons.{code_of, named_column, code_in, named_column_in};
 
-use crate::{FitEnding, Reason};
+use crate::{Reason, Unfitted};
 
-fn code_of(why: Reason) -> usize
-    ensures { result ≡ code_of why }
-{
-    match why {
-        Reason::NothingFree => 1,
-        Reason::NoPivot(_) => 2,
-        Reason::NotFinite => 3,
-        Reason::NotLess => 4,
-        Reason::Spent => 5,
+impl Reason {
+    fn code(self) -> usize
+        ensures { result ≡ code_of self }
+    {
+        match self {
+            Reason::NothingFree => 1,
+            Reason::NoPivot(_) => 2,
+            Reason::NotFinite => 3,
+            Reason::NotLess => 4,
+            Reason::Spent => 5,
+        }
+    }
+
+    fn column(self) -> usize
+        ensures { result ≡ named_column self }
+    {
+        match self {
+            Reason::NoPivot(column) => column,
+            _ => 0,
+        }
     }
 }
 
-fn column_of(why: Reason) -> usize
-    ensures { result ≡ named_column why }
-{
-    match why {
-        Reason::NothingFree => 0,
-        Reason::NoPivot(column) => column,
-        Reason::NotFinite => 0,
-        Reason::NotLess => 0,
-        Reason::Spent => 0,
-    }
-}
-
-pub fn code(ending: FitEnding) -> usize
+pub fn code(ending: Result<(), Unfitted>) -> usize
     ensures { result ≡ code_in ending }
 {
     match ending {
-        FitEnding::Converged => 0,
-        FitEnding::Failed(why) => code_of(why),
-        FitEnding::TooMany => 0,
-        FitEnding::TooShort => 0,
+        Err(Unfitted::Failed(why)) => why.code(),
+        _ => 0,
     }
 }
 
-pub fn named_column(ending: FitEnding) -> usize
+pub fn named_column(ending: Result<(), Unfitted>) -> usize
     ensures { result ≡ named_column_in ending }
 {
     match ending {
-        FitEnding::Converged => 0,
-        FitEnding::Failed(why) => column_of(why),
-        FitEnding::TooMany => 0,
-        FitEnding::TooShort => 0,
+        Err(Unfitted::Failed(why)) => why.column(),
+        _ => 0,
     }
 }

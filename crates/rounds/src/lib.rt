@@ -7,30 +7,29 @@ mod codes;
 mod opening;
 mod round;
 mod state;
+mod task;
 mod tries;
-
-ghost use Rattle.std.specs.Prelude.{◌≡◌};
-ghost use Rattle.rounds.specs.Promise.{converged_by};
 
 pub use codes::{code, named_column};
 use members::{Coordinates, Equations};
 pub use opening::solve;
 use sketch::{Active, Line};
+use slices::Refusal;
 
 // What a fit is of: the chosen equations of a build, its lines, the tables of a point's place in the group and of a coordinate's
 // among the free ones, and which coordinates these are.
 #[derive(Clone, Copy)]
-pub struct Posed {
-    pub equations: [Active; 40],
-    pub lines: [Line; 40],
-    pub chosen: Equations,
-    pub places: [u8; 40],
-    pub columns: [u8; 80],
-    pub free: Coordinates,
+pub struct Posed<'a> {
+    pub equations: &'a [Active; 40],
+    pub lines: &'a [Line; 40],
+    pub chosen: &'a Equations,
+    pub places: &'a [u8; 40],
+    pub columns: &'a [u8; 80],
+    pub free: &'a Coordinates,
 }
 
 // Why a fit failed, in document 02's order.
-#[derive(Clone, Copy)]
+#[derive(Clone, Copy, Debug, PartialEq, Eq)]
 pub enum Reason {
     // No coordinate is free.
     NothingFree,
@@ -56,54 +55,20 @@ pub struct Fit {
     pub why: Reason,
 }
 
-// What a try came to, or a round's tries: whether one was taken, and where the fit stands.
-#[derive(Clone, Copy)]
-pub(crate) struct Attempted {
-    pub(crate) improved: bool,
-    pub(crate) fit: Fit,
-}
-
-// What a round leads to.
-#[derive(Clone, Copy)]
-pub(crate) struct Step {
-    pub(crate) ended: bool,
-    pub(crate) converged: bool,
-    pub(crate) fit: Fit,
-}
-
-// How a fit ended, and where it stood.
-#[derive(Clone, Copy)]
-pub(crate) struct Ended {
-    pub(crate) converged: bool,
-    pub(crate) fit: Fit,
-}
-
-// What a call came to. A refusal changes nothing that is lent.
-#[derive(Clone, Copy)]
-pub enum FitEnding {
-    Converged,
+// Why there is no fit.
+#[derive(Clone, Copy, Debug, PartialEq, Eq)]
+pub enum Unfitted {
     // No coordinates are handed out.
     Failed(Reason),
-    // 3: more than 80 coordinates.
-    TooMany,
-    // 9: a work area shorter than 6,400, the most that 80 rows and 80 free coordinates take.
-    TooShort,
+    // More than 80 coordinates, or a work area shorter than 6,400, the most that 80 rows and 80 free coordinates take. Nothing that is
+    // lent is changed.
+    Refused(Refusal),
 }
 
+// What a call came to.
 #[derive(Clone, Copy)]
 pub struct Solved {
-    pub ending: FitEnding,
+    pub ending: Result<(), Unfitted>,
     pub iterations: usize,
     pub tries: usize,
-}
-
-pub fn converged(ending: FitEnding) -> bool
-    ensures { result ≡ converged_by ending }
-{
-    match ending {
-        FitEnding::Converged => true,
-        FitEnding::Failed(_) => false,
-        FitEnding::TooMany => false,
-        FitEnding::TooShort => false,
-    }
 }

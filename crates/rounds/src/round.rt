@@ -1,12 +1,13 @@
 // The rounds.
 ghost use Rattle.std.specs.Prelude.{◌≡◌, ◌≤◌, length};
-ghost use Rattle.rounds.specs.Inside.{Shapes, Matrices, Own, step_of, ended_of};
-ghost use Rattle.rounds.specs.Problem.{row_count, jacobian_at, problem_of, state_of};
+ghost use Rattle.rounds.specs.Inside.{Shapes, Matrices, Own, problem_in, jacobian_in, step_of, ended_of};
+ghost use Rattle.rounds.specs.Problem.{state_of};
 ghost use Rattle.rounds.specs.Solve.{within, rounds_of};
 
+use crate::Fit;
+use crate::task::Task;
 use crate::tries::all_tries;
-use crate::{Attempted, Ended, Fit, Step};
-use sketch::{Active, Line};
+use std::ops::ControlFlow;
 
 // Every residual is within the tolerance.
 pub(crate) fn within(r: &[f64]) -> bool
@@ -15,88 +16,46 @@ pub(crate) fn within(r: &[f64]) -> bool
     floats::max_abs(r) <= Fit::TOLERANCE
 }
 
-// What a round leads to: the end, or the next round. Within the tolerance it is done if no try was taken or the polishing steps
-// are spent; outside it has failed if no try was taken.
-fn after_round(fitted: bool, t: Attempted) -> Step
-    ensures { result ≡ step_of fitted t }
+// What a round leads to: the end, converged or failed, or the next round. Within the tolerance it is done if no try was taken or the
+// polishing steps are spent; outside it has failed if no try was taken.
+fn after_round(fitted: bool, tried: Result<Fit, Fit>) -> ControlFlow<Result<Fit, Fit>, Fit>
+    ensures { result ≡ step_of fitted tried }
 {
-    let fit = t.fit;
-    if fitted {
-        if !t.improved | (fit.polish == 0) {
-            return Step {
-                ended: true,
-                converged: true,
-                fit,
-            };
-        }
-        return Step {
-            ended: false,
-            converged: false,
-            fit: fit.polished(),
-        };
-    }
-    Step {
-        ended: !t.improved,
-        converged: false,
-        fit,
+    match (fitted, tried) {
+        (true, Ok(fit)) if 0 < fit.polish => ControlFlow::Continue(fit.polished()),
+        (true, Ok(fit) | Err(fit)) => ControlFlow::Break(Ok(fit)),
+        (false, Ok(fit)) => ControlFlow::Continue(fit),
+        (false, Err(fit)) => ControlFlow::Break(Err(fit)),
     }
 }
 
 // At most 200 rounds; after the last the tolerance decides. The residuals r are those at x already, so that only the Jacobian is worked
 // out anew.
 pub(crate) fn all_rounds(
-    equations: [Active; 40],
-    lines: [Line; 40],
-    chosen: &[usize],
-    places: &[u8],
-    columns: &[u8],
-    free: &[usize],
+    p: &Task<'_>,
     x: &mut [f64],
     r: &mut [f64],
     j: &mut [f64],
     h: &mut [f64],
     w: &mut [f64],
     fit: Fit,
-) -> Ended
-    requires { Shapes equations chosen.now free.now j.old r.old × Matrices r.old h.old w.old × (length x.old ≤ 80)
-        × Own equations lines places.now chosen.now x.old r.old × (fit.iterations ≤ 0) × (fit.tries ≤ 0) }
-    ensures { ended_of x.new result
-        ≡ rounds_of (problem_of equations lines places.now chosen.now free.now (row_count equations chosen.now))
-        (jacobian_at equations lines places.now chosen.now columns.now (length free.now)) 200 (state_of x.old r.old fit) }
+) -> Result<Fit, Fit>
+    requires { Shapes p.now j.old r.old × Matrices p.now h.old w.old × (length x.old ≤ 80)
+        × Own p.now x.old r.old × (fit.iterations ≤ 0) × (fit.tries ≤ 0) }
+    ensures { ended_of x.new result ≡ rounds_of (problem_in p.now) (jacobian_in p.now) 200 (state_of x.old r.old fit) }
 {
-    let n = x.len();
-    let rows = r.len();
     let mut xn = [0.0; 80];
+    let xn = &mut xn[..x.len()];
     let mut rn = [0.0; 80];
+    let rn = &mut rn[..r.len()];
     let mut f = fit;
     for _ in 0..Fit::MAX_ITER {
-        slopes::jacobian(equations, lines, chosen, places, columns, free.len(), x, j);
-        let t = all_tries(
-            equations,
-            lines,
-            chosen,
-            places,
-            free,
-            j,
-            x,
-            r,
-            h,
-            w,
-            &mut xn[..n],
-            &mut rn[..rows],
-            f,
-        );
-        let s = after_round(within(r), t);
-        f = s.fit;
-        if s.ended {
-            return Ended {
-                converged: s.converged,
-                fit: f,
-            };
+        p.jacobian(x, j);
+        let tried = all_tries(p, j, x, r, h, w, xn, rn, f);
+        match after_round(within(r), tried) {
+            ControlFlow::Continue(next) => f = next,
+            ControlFlow::Break(ended) => return ended,
         }
     }
-    Ended {
-        converged: within(r),
-        fit: f,
-    }
+    if within(r) { Ok(f) } else { Err(f) }
 }

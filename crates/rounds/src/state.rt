@@ -1,8 +1,9 @@
 // The steps of the fit's state.
 ghost use Rattle.std.specs.Prelude.{◌≡◌, ◌<◌};
 ghost use Rattle.rounds.specs.Inside.{started_fit, taken_fit, harder_fit, begun_fit, polished_fit};
+ghost use Rattle.rounds.specs.Promise.{saying};
 
-use crate::{Fit, Reason};
+use crate::{Fit, Reason, Solved, Unfitted};
 
 impl Fit {
     // Iterations before giving up.
@@ -40,14 +41,9 @@ impl Fit {
         requires { self.iterations < 4096 }
         ensures { result ≡ begun_fit self }
     {
-        let why = self.why;
         Fit {
-            cost: self.cost,
-            mu: self.mu,
-            polish: self.polish,
             iterations: self.iterations + 1,
-            tries: self.tries,
-            why,
+            ..self
         }
     }
 
@@ -59,10 +55,9 @@ impl Fit {
         Fit {
             cost,
             mu: floats::max(self.mu * Fit::EASIER, Fit::LEAST_DAMPING),
-            polish: self.polish,
-            iterations: self.iterations,
             tries: self.tries + 1,
             why: Reason::Spent,
+            ..self
         }
     }
 
@@ -72,12 +67,10 @@ impl Fit {
         ensures { result ≡ harder_fit why self }
     {
         Fit {
-            cost: self.cost,
             mu: self.mu * Fit::HARDER,
-            polish: self.polish,
-            iterations: self.iterations,
             tries: self.tries + 1,
             why,
+            ..self
         }
     }
 
@@ -86,14 +79,20 @@ impl Fit {
         requires { 0 < self.polish }
         ensures { result ≡ polished_fit self }
     {
-        let why = self.why;
         Fit {
-            cost: self.cost,
-            mu: self.mu,
             polish: self.polish - 1,
+            ..self
+        }
+    }
+
+    // What a call came to that ended here.
+    pub(crate) fn ended(self, ending: Result<(), Unfitted>) -> Solved
+        ensures { result ≡ saying ending self.iterations self.tries }
+    {
+        Solved {
+            ending,
             iterations: self.iterations,
             tries: self.tries,
-            why,
         }
     }
 }

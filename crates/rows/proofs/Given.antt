@@ -7,6 +7,7 @@ use Rattle.sketch.specs.declared.Line.{Line}
 use Rattle.sketch.specs.declared.PointNo.{PointNo}
 use Rattle.rows.specs.Kinds.{rows_of_equation}
 use Rattle.rows.specs.Ends.{ends_of, rows_given}
+use Rattle.rows.specs.declared.Ends.{Ends}
 
 -- with the ends that a build has they are the equation's rows
 module _ (ls : List Line) (at : PointNo → Vec2) where
@@ -33,3 +34,6 @@ module _ (ls : List Line) (at : PointNo → Vec2) where
   given (Equation.ArcMidpoint p c f t) = refl
   given (Equation.Symmetric p q l) = refl
   given (Equation.EqualRadius c₁ f₁ c₂ f₂) = refl
+
+  pub given_by : (e : Equation) (s : Ends) → s ≡ ends_of ls e → rows_given s at e ≡ rows_of_equation ls at e
+  given_by e s p = rw p (given e)

@@ -38,6 +38,7 @@ impl Dense<'_> {
     }
 
     // Adds what the row's gradient is with respect to the two coordinates of a point.
+    #[tactic(auto, unfolding(crate::specs::Dense::add_entry))]
     pub fn push(self, jac: &mut [f64], p: PointNo, d: Vec2)
         ensures { jac.new ≡ pushed self.entry jac.old (entry p d) }
     {

@@ -65,7 +65,7 @@ fn check(a: &[f64], b: &[f64], n: usize) -> Result<(), Refusal>
     if 80 < n {
         return Err(Refusal::TooMany);
     }
-    if a.len() < n * n || b.len() < n {
+    if !loops::holds(a.len(), n, n) || b.len() < n {
         return Err(Refusal::TooShort);
     }
     Ok(())

@@ -11,7 +11,12 @@ use crate::{Unsolved, below};
 fn scale(a: &[f64]) -> f64
     ensures { result ≡ scale_of a.now }
 {
-    floats::max(a.iter().fold(0.0, |m, v| larger(m, *v)), 1e-300)
+    // A plain loop: a fold took longer.
+    let mut m = 0.0;
+    for i in 0..a.len() {
+        m = larger(m, a[i]);
+    }
+    floats::max(m, 1e-300)
 }
 
 // Where m is no NaN, that is the larger of m and the magnitude of v, and no NaN either: so no test for one is needed at the next turn.

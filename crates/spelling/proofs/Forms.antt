@@ -6,7 +6,7 @@
 --         single      no text goes on with the printed forms of two fit values
 --     `before` is what the text after it has to be: a whole number ends where no digit follows.
 -- Readings are put together: nothing more to read, a word or a byte in front, one after another, one or another, one of several names, the
--- same read as something else.
+-- same with something made of it, the same printed from something else.
 -- Assumes nothing.
 use Prim.Native.Nat.{ℕ, ◌+◌}
 use mathlib.Core.Bool.{Bool, true, false, cond, ◌||◌}
@@ -70,22 +70,22 @@ done-reads m before = record {
 module _ {A M N : Type 0} {B : A → Type 0}
     {text_a : A → List ℕ} {fit_a : A → Type 0} {mean_a : A → M} {read_a : List ℕ → ℕ → Read M} {before_a : List ℕ → Bool}
     {text_b : (a : A) → B a → List ℕ} {fit_b : (a : A) → B a → Type 0} {mean_b : (a : A) → B a → N} {before_b : List ℕ → Bool}
-    (read_b : M → List ℕ → ℕ → Read N) (first : Reads text_a fit_a mean_a read_a before_a) (second : (a : A) → Reads (text_b a) (fit_b a) (mean_b a) (read_b (mean_a a)) before_b)
+    (read_b : M × ℕ → List ℕ → Read N) (first : Reads text_a fit_a mean_a read_a before_a) (second : (a : A) → Reads (text_b a) (fit_b a) (mean_b a) (λ s at. read_b (mean_a a, at) s) before_b)
     (parts : (a : A) (b : B a) (t : List ℕ) → before_b t ≡ true → before_a (text_b a b ++ t) ≡ true) where
   then-forward : (s : List ℕ) (at : ℕ) (p : (a : A) × B a) (t : List ℕ) → fit_a p.0 × fit_b p.0 p.1 → before_b t ≡ true
-      → Here s at ((text_a p.0 ++ text_b p.0 p.1) ++ t) → (n : ℕ) × ((read_a s at >>= λ r. read_b r.0 s r.1) ≡ Some (mean_b p.0 p.1, n)) × Here s n t
+      → Here s at ((text_a p.0 ++ text_b p.0 p.1) ++ t) → (n : ℕ) × ((read_a s at >>= λ r. read_b r s) ≡ Some (mean_b p.0 p.1, n)) × Here s n t
   then-forward s at p t g h k =
       let e : Here s at (text_a p.0 ++ (text_b p.0 p.1 ++ t)) = rw append_assoc at k in
       let f = first.forward s at p.0 (text_b p.0 p.1 ++ t) g.0 (parts p.0 p.1 t h) e in
       let r = (second p.0).forward s f.0 p.1 t g.1 h f.2 in
       (r.0, rw f.1 r.1, r.2)
 
-  then-backward : (s : List ℕ) (at : ℕ) (t : List ℕ) (m : N) (n : ℕ) → Here s at t → (read_a s at >>= λ r. read_b r.0 s r.1) ≡ Some (m, n)
+  then-backward : (s : List ℕ) (at : ℕ) (t : List ℕ) (m : N) (n : ℕ) → Here s at t → (read_a s at >>= λ r. read_b r s) ≡ Some (m, n)
       → (p : (a : A) × B a) × (u : List ℕ) × (fit_a p.0 × fit_b p.0 p.1) × (mean_b p.0 p.1 ≡ m) × (t ≡ (text_a p.0 ++ text_b p.0 p.1) ++ u) × Here s n u
   then-backward s at t m n h k =
-      let b = bound (read_a s at) (λ r. read_b r.0 s r.1) (m, n) k in
+      let b = bound (read_a s at) (λ r. read_b r s) (m, n) k in
       let f = first.backward s at t b.0.0 b.0.1 h b.1 in
-      let e : read_b (mean_a f.0) s b.0.1 ≡ Some (m, n) = subst (λ (x : M). read_b x s b.0.1 ≡ Some (m, n)) (sym f.3) b.2 in
+      let e : read_b (mean_a f.0, b.0.1) s ≡ Some (m, n) = subst (λ (x : M). read_b (x, b.0.1) s ≡ Some (m, n)) (sym f.3) b.2 in
       let g = (second f.0).backward s b.0.1 f.1 m n f.5 e in
       ((f.0, g.0), g.1, (f.2, g.2), g.3, f.4 ∙ ap (λ l. text_a f.0 ++ l) g.4 ∙ sym (append_assoc (text_a f.0) (text_b f.0 g.0) g.1), g.5)
 
@@ -99,8 +99,21 @@ module _ {A M N : Type 0} {B : A → Type 0}
       (λ d z v. let x = (second p.0).single p.1 d t u g.1 z h i v in (ap (λ (b : B p.0). (p.0, b)) x.0, x.1)) q.1 k.1 r.1
 
   pub then-reads : Reads {A = (a : A) × B a} (λ p. text_a p.0 ++ text_b p.0 p.1) (λ p. fit_a p.0 × fit_b p.0 p.1) (λ p. mean_b p.0 p.1)
-      (λ s at. read_a s at >>= λ r. read_b r.0 s r.1) before_b
+      (λ s at. read_a s at >>= λ r. read_b r s) before_b
   then-reads = record { forward = then-forward; backward = then-backward; single = then-single }
+
+-- The same, with something made of what was read.
+pub mean-reads : {A M N : Type 0} {text : A → List ℕ} {fit : A → Type 0} {mean : A → M} {read : List ℕ → ℕ → Read M} {before : List ℕ → Bool} (f : M → N)
+    → Reads text fit mean read before → Reads text fit (λ a. f (mean a)) (λ s at. read s at >>= λ r. Some (f r.0, r.1)) before
+mean-reads {read = read} f r = record {
+  forward = λ s at a t g h k. let q = r.forward s at a t g h k in (q.0, rw q.1, q.2);
+  backward = λ s at t m n h k.
+      let b = bound (read s at) (λ r. Some (f r.0, r.1)) (m, n) k in
+      let e = read_same b.2 in
+      let q = r.backward s at t b.0.0 b.0.1 h b.1 in
+      (q.0, q.1, q.2, ap f q.3 ∙ e.0, q.4, subst (λ (i : ℕ). Here s i q.1) e.1 q.5);
+  single = r.single;
+}
 
 -- A byte or a word in front.
 same-rest : (w x y : List ℕ) → w ++ x ≡ w ++ y → x ≡ y
@@ -138,12 +151,11 @@ module _ {A M : Type 0} {text : A → List ℕ} {fit : A → Type 0} {mean : A �
     single = λ a b t u g k h i e. r.single a b t u g k h i (same-rest (x ∷ []) (text a ++ t) (text b ++ u) e);
   }
 
--- The same text read as something else: f of what was printed, and g the way back.
+-- The same text printed from something else: f of what was printed, and g the way back.
 module _ {A B M : Type 0} {text : A → List ℕ} {fit : A → Type 0} {mean : A → M} {read : List ℕ → ℕ → Read M} {before : List ℕ → Bool}
     {text_b : B → List ℕ} {fit_b : B → Type 0} {mean_b : B → M}
-    (f : A → B) (g : B → A) (whole : (b : B) → f (g b) ≡ b) (text-is : (a : A) → text_b (f a) ≡ text a) (mean-is : (a : A) → mean_b (f a) ≡ mean a)
-    (fit-to : (b : B) → fit_b b → fit (g b)) (fit-of : (a : A) → fit a → fit_b (f a))
-    (r : Reads text fit mean read before) where
+    (r : Reads text fit mean read before) (f : A → B) (g : B → A) (whole : (b : B) → f (g b) ≡ b) (text-is : (a : A) → text_b (f a) ≡ text a)
+    (mean-is : (a : A) → mean_b (f a) ≡ mean a) (fit-to : (b : B) → fit_b b → fit (g b)) (fit-of : (a : A) → fit a → fit_b (f a)) where
   pub as-reads : Reads text_b fit_b mean_b read before
   as-reads = record {
     forward = λ s at b t p h k.

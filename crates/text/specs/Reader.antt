@@ -1,93 +1,88 @@
 -- The whole text, in document 01's order: its length, the form of the four count lines, the counts' bounds, the rest of the form.
-use Rattle.std.specs.Prelude.{Bool, true, false, not, ◌&&◌, ◌||◌, List, [], ℕ, ltb, eqb, length}
-use Rattle.floats.specs.Ops.{zero⁺}
+use Rattle.std.specs.Prelude.{Bool, true, false, ◌||◌, List, ℕ, ltb, eqb, length, Option, Some, None, Result, Err, ok_or, if◌then◌else◌}
 use Rattle.phrases.specs.Fields.{vec_at}
-use Rattle.phrases.specs.Kinds.{word_at}
-use Rattle.sketch.specs.Blank.{origin, sample}
+use Rattle.sketch.specs.Blank.{sample}
 use Rattle.sketch.specs.declared.Build.{Build}
 use Rattle.sketch.specs.declared.Ending.{Ending}
 use Rattle.spelling.specs.Floating.{float_at}
 use Rattle.spelling.specs.Letters.{ascii}
-use Rattle.spelling.specs.Places.{eat_of}
+use Rattle.spelling.specs.Places.{Read, ◌>>=◌, eat_of, word_of}
 use Rattle.spelling.specs.Wholes.{whole_at}
-use Rattle.spelling.specs.declared.Cursor.{Cursor}
-use Rattle.spelling.specs.declared.WholeRead.{WholeRead}
-use Rattle.text.specs.Items.{points_at, lines_at, equations_at, measures_at}
-use Rattle.text.specs.declared.BuildRead.{BuildRead}
-use Rattle.text.specs.declared.CountsRead.{CountsRead}
-use Rattle.text.specs.declared.Outcome.{Outcome}
-use Rattle.text.specs.declared.Reading.{Reading}
+use Rattle.text.specs.Items.{items_at}
+use Rattle.text.specs.Lines.{point_line, line_line, equation_line, measure_line}
+use Rattle.text.specs.declared.Counts.{Counts}
 
 -- a key, a whole number and a newline
-unfoldable pub count_at : List ℕ → Cursor → List ℕ → WholeRead
-count_at s c key = let n = whole_at s (word_at s c key) in record { value = n.value; next = eat_of s n.next 10 }
+unfoldable pub count_at : List ℕ → ℕ → List ℕ → Read ℕ
+count_at s at key = do
+  k ← word_of s at key
+  n ← whole_at s k
+  end ← eat_of s n.1 10
+  Some (n.0, end)
 
--- the four count lines, from the start of the text
-unfoldable pub counts_at : List ℕ → CountsRead
-counts_at s =
-    let p = count_at s (record { at = 0; ok = true }) (ascii "points=") in
-    let l = count_at s p.next (ascii "lines=") in
-    let e = count_at s l.next (ascii "equations=") in
-    let m = count_at s e.next (ascii "measures=") in
-    record { points = p.value; lines = l.value; equations = e.value; measures = m.value; next = m.next }
+-- the four count lines
+unfoldable pub counts_at : List ℕ → ℕ → Read Counts
+counts_at s at = do
+  p ← count_at s at (ascii "points=")
+  l ← count_at s p.1 (ascii "lines=")
+  e ← count_at s l.1 (ascii "equations=")
+  m ← count_at s e.1 (ascii "measures=")
+  Some (record { points = p.0; lines = l.0; equations = e.0; measures = m.0 }, m.1)
 
-abbrev pub over_counts : CountsRead → Bool
-over_counts n = ltb 40 n.points || ltb 40 n.lines || ltb 40 n.equations || ltb 20 n.measures
+abbrev pub over : Counts → Bool
+over n = ltb 40 n.points || ltb 40 n.lines || ltb 40 n.equations || ltb 20 n.measures
 
 -- what comes after the counts: "centre=", "size=" and the items
-unfoldable pub build_at : List ℕ → CountsRead → BuildRead
-build_at s n =
-    let v = vec_at s (word_at s n.next (ascii "centre=")) in
-    let z = float_at s (word_at s v.next (ascii "\nsize=")) in
-    let p = points_at s (eat_of s z.next 10) n.points in
-    let l = lines_at s p.next n.lines in
-    let e = equations_at s l.next n.equations in
-    let m = measures_at s e.next n.measures in
-    record {
-      build = record {
-        centre = v.vec;
-        size = z.value;
-        points = p.points;
-        point_count = n.points;
-        lines = l.lines;
-        line_count = n.lines;
-        equations = e.equations;
-        equation_count = n.equations;
-        measures = m.measures;
-        measure_count = n.measures;
-      };
-      next = m.next;
-    }
+unfoldable pub rest_at : Counts → List ℕ → ℕ → Read Build
+rest_at n s at = do
+  c ← word_of s at (ascii "centre=")
+  v ← vec_at s c
+  k ← word_of s v.1 (ascii "\nsize=")
+  z ← float_at s k
+  i ← eat_of s z.1 10
+  p ← items_at point_line n.points s i
+  l ← items_at line_line n.lines s p.1
+  e ← items_at equation_line n.equations s l.1
+  m ← items_at measure_line n.measures s e.1
+  Some (sample v.0 z.0 p.0 l.0 e.0 m.0, m.1)
 
--- a build with nothing in it
-abbrev pub blank_build : Build
-blank_build = sample origin zero⁺ [] [] [] []
+-- what was read, where the text ends there
+abbrev pub ended : {A : Type 0} → List ℕ → Read A → Option A
+ended s None = None
+ended s (Some r) = if eqb r.1 (length s) then Some r.0 else None
 
-abbrev pub refused_with : Ending → Reading
-refused_with e = record { outcome = Outcome.Ends e; build = blank_build }
-
--- the first of the four that holds decides
-abbrev pub judged : Bool → Bool → Bool → Bool → Build → Reading
-judged true c o r b = refused_with Ending.TooLong
-judged false true o r b = refused_with Ending.BadForm
-judged false false true r b = refused_with Ending.TooMany
-judged false false false true b = refused_with Ending.BadForm
-judged false false false false b = record { outcome = Outcome.Read; build = b }
+-- the build that stands after the counts
+abbrev pub build_at : List ℕ → Read Counts → Option Build
+build_at s None = None
+build_at s (Some n) = ended s (rest_at n.0 s n.1)
 
 -- 1: over 16,384 bytes
 abbrev pub too_long : List ℕ → Bool
 too_long s = ltb 16384 (length s)
 
 -- 2, in the count lines
-abbrev pub bad_counts : CountsRead → Bool
-bad_counts n = not n.next.ok
+abbrev pub bad_counts : Read Counts → Bool
+bad_counts None = true
+bad_counts (Some n) = false
+
+-- 3: a count over its bound
+abbrev pub over_counts : Read Counts → Bool
+over_counts None = false
+over_counts (Some n) = over n.0
 
 -- 2, after them: something was not as it should be, or the text goes on
-abbrev pub bad_rest : List ℕ → BuildRead → Bool
-bad_rest s b = not (b.next.ok && eqb b.next.at (length s))
+abbrev pub bad_rest : Option Build → Bool
+bad_rest None = true
+bad_rest (Some b) = false
 
-unfoldable pub read_of : List ℕ → Reading
+-- the first of the four that holds decides
+abbrev pub judged : Bool → Bool → Bool → Option Build → Result Build Ending
+judged true c o b = Err Ending.TooLong
+judged false true o b = Err Ending.BadForm
+judged false false true b = Err Ending.TooMany
+judged false false false b = ok_or b Ending.BadForm
+
+unfoldable pub read_of : List ℕ → Result Build Ending
 read_of s =
-    let n = counts_at s in
-    let b = build_at s n in
-    judged (too_long s) (bad_counts n) (over_counts n) (bad_rest s b) b.build
+    let n = counts_at s 0 in
+    judged (too_long s) (bad_counts n) (over_counts n) (build_at s n)

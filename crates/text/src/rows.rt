@@ -2,82 +2,67 @@
 ghost use Rattle.std.specs.Prelude.{◌≡◌};
 ghost use Rattle.text.specs.Lines.{state_at, point_line, line_line, equation_line, measure_line};
 
-use crate::{ActiveRead, LineRead, MeasuredRead, PointRead, StateRead};
+use crate::items::Item;
 use phrases::{equation, measure, number, vec};
 use sketch::{Active, Line, Measured, Point, PointNo, State};
-use spelling::{Cursor, eat, whole, word};
+use spelling::{eat, whole, word};
 
-fn state(s: &[u8], c: Cursor) -> StateRead
-    ensures { result ≡ state_at s.now c }
+#[tactic(auto, unfolding(crate::specs::Lines::state_at))]
+fn state(s: &[u8], at: usize) -> Option<(State, usize)>
+    ensures { result ≡ state_at s.now at }
 {
-    let free = word(s, c, b",free");
-    if free.ok {
-        return StateRead {
-            state: State::Free,
-            next: free,
+    if let Some(at) = word(s, at, b",free") {
+        return Some((State::Free, at));
+    }
+    if let Some(at) = word(s, at, b",kept") {
+        return Some((State::Kept, at));
+    }
+    let (place, at) = vec(s, word(s, at, b",at,")?)?;
+    Some((State::Placed(place), at))
+}
+
+impl Item for Point {
+    ghost reads = { point_line };
+
+    #[tactic(auto, unfolding(crate::specs::Lines::point_line))]
+    fn line(s: &[u8], at: usize) -> Option<(Point, usize)> {
+        let (start, at) = vec(s, word(s, at, b"p=")?)?;
+        let (state, at) = state(s, at)?;
+        Some((Point { start, state }, eat(s, at, b'\n')?))
+    }
+}
+
+impl Item for Line {
+    ghost reads = { line_line };
+
+    #[tactic(auto, unfolding(crate::specs::Lines::line_line))]
+    fn line(s: &[u8], at: usize) -> Option<(Line, usize)> {
+        let (from, at) = whole(s, word(s, at, b"l=")?)?;
+        let (to, at) = number(s, at)?;
+        let line = Line {
+            from: PointNo(from),
+            to: PointNo(to),
         };
-    }
-    let kept = word(s, c, b",kept");
-    if kept.ok {
-        return StateRead {
-            state: State::Kept,
-            next: kept,
-        };
-    }
-    let v = vec(s, word(s, c, b",at,"));
-    let place = v.vec;
-    let next = v.next;
-    StateRead {
-        state: State::Placed(place),
-        next,
+        Some((line, eat(s, at, b'\n')?))
     }
 }
 
-pub(crate) fn point_line(s: &[u8], c: Cursor) -> PointRead
-    ensures { result ≡ point_line s.now c }
-{
-    let v = vec(s, word(s, c, b"p="));
-    let t = state(s, v.next);
-    let start = v.vec;
-    let state = t.state;
-    PointRead {
-        point: Point { start, state },
-        next: eat(s, t.next, b'\n'),
+impl Item for Active {
+    ghost reads = { equation_line };
+
+    #[tactic(auto, unfolding(crate::specs::Lines::equation_line))]
+    fn line(s: &[u8], at: usize) -> Option<(Active, usize)> {
+        let (equation, at) = equation(s, word(s, at, b"e=")?)?;
+        Some((Active { equation }, eat(s, at, b'\n')?))
     }
 }
 
-pub(crate) fn line_line(s: &[u8], c: Cursor) -> LineRead
-    ensures { result ≡ line_line s.now c }
-{
-    let from = whole(s, word(s, c, b"l="));
-    let to = number(s, from.next);
-    LineRead {
-        line: Line {
-            from: PointNo(from.value),
-            to: PointNo(to.value),
-        },
-        next: eat(s, to.next, b'\n'),
-    }
-}
+impl Item for Measured {
+    ghost reads = { measure_line };
 
-pub(crate) fn equation_line(s: &[u8], c: Cursor) -> ActiveRead
-    ensures { result ≡ equation_line s.now c }
-{
-    let e = equation(s, word(s, c, b"e="));
-    let equation = e.equation;
-    ActiveRead {
-        active: Active { equation },
-        next: eat(s, e.next, b'\n'),
-    }
-}
-
-pub(crate) fn measure_line(s: &[u8], c: Cursor) -> MeasuredRead
-    ensures { result ≡ measure_line s.now c }
-{
-    let m = measure(s, word(s, c, b"m="));
-    let measure = m.measure;
-    MeasuredRead {
-        measured: Measured { measure },
-        next: eat(s, m.next, b'\n'),
+    #[tactic(auto, unfolding(crate::specs::Lines::measure_line))]
+    fn line(s: &[u8], at: usize) -> Option<(Measured, usize)> {
+        let (measure, at) = measure(s, word(s, at, b"m=")?)?;
+        Some((Measured { measure }, eat(s, at, b'\n')?))
     }
 }

@@ -3,18 +3,9 @@ use mathlib.Core.Path.{sym, ap}
 use native.Mathlib.Omega.{arith}
 use lib.Ieee.{binary64, of_bits}
 use Rattle.root.proofs.Whole.{root-small}
-use Rattle.root.proofs.Place.{inside-ge, inside-le, root_is}
+use Rattle.root.proofs.Place.{inside-le, root_is}
 use Rattle.root.proofs.Patterns.{no_nan}
 use Rattle.root.proofs.root.Goals as goal
-
-pub overflow_mul-t-2 : goal.overflow_mul-t-2
-overflow_mul-t-2 c = omega (arith, inside-le c.args.m c.args.k c.requires.0 c.requires.1)
-
-pub settle-r-requires : goal.settle-r-requires
-settle-r-requires c = (inside-ge c.args.m c.args.k c.requires.0 c.requires.1, omega (arith, inside-le c.args.m c.args.k c.requires.0 c.requires.1), omega arith)
-
-pub overflow_add-result : goal.overflow_add-result
-overflow_add-result c = omega (arith, root-small _ c.settle-r.result (inside-le c.args.m c.args.k c.requires.0 c.requires.1) c.settle-r.ensures.0)
 
 pub float_from_bits-result : goal.float_from_bits-result
 float_from_bits-result c = no_nan _ (omega (arith, root-small _ c.settle-r.result (inside-le c.args.m c.args.k c.requires.0 c.requires.1) c.settle-r.ensures.0))

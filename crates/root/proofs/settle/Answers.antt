@@ -1,21 +1,16 @@
 -- `root::settle` meets its contract. d * 2 ^ 46 is at most 8 r, the distance to the squares on either side. Assumes nothing.
 use mathlib.Core.Path.{◌≡◌, ap, subst, subst⁻¹}
-use mathlib.Core.Bool.{Bool, true, false}
+use mathlib.Core.Bool.{Bool}
 use Prim.Native.Nat.{ℕ, ◌+◌, ◌-◌, ◌*◌, ◌/◌, ◌^◌, ◌≤◌, ◌<◌}
 use native.Mathlib.Decide.{dec_lt}
 use native.Mathlib.Omega.{arith}
 use lib.Dec.{ltb}
 use mir.Val.{bool_byte}
-use borrow.Author.Rules.{rules}
 use borrow.Author.Tests.{lt-ltb, le-ltb}
 use Rattle.root.specs.Whole.{Over, Under, Root}
 use Rattle.root.proofs.Whole.{no_tie, up}
-use Rattle.root.proofs.Halves.{square-over, square-under, square-small}
+use Rattle.root.proofs.Halves.{square-over, square-under}
 use Rattle.root.proofs.settle.Goals as goal
-
-one_at_most : (b : Bool) → bool_byte b ≤ 1
-one_at_most true = omega arith
-one_at_most false = omega arith
 
 -- what `r + (f < t) as u64` is, on either side of the test
 more : (t r f : ℕ) → f < t → r + bool_byte (ltb f t) ≡ r + 1
@@ -45,12 +40,6 @@ here t r f sq h d =
     let e : r - 1 + 1 ≡ r = omega arith in
     (subst (λ (n : ℕ). f ≡ (2 * n + 1) * (2 * n + 1) / 2 ^ 46 → f < t + n / 0x800_0000_0000 → Over t n) e (lower t (r - 1) f) sq d, under t r f sq h)
 
-pub overflow_add-a : goal.overflow_add-a
-overflow_add-a c = omega (arith, one_at_most (ltb c.square-f.result c.args.t))
-
-pub overflow_add-f : goal.overflow_add-f
-overflow_add-f c = omega (arith, square-small (2 * c.args.r + 1) c.square-f.result c.square-f.ensures (search rules))
-
 pub returns-then-f-t : goal.returns-then-f-t
 returns-then-f-t c =
     let t = c.args.t in
@@ -63,19 +52,3 @@ returns-then-f-t c =
           let g : t ≤ f = omega arith in
           subst⁻¹ (Root t) (same t r f g) (here t r f e g c.if-f-t.true)
     ]
-
-pub fall-requires : goal.fall-requires
-fall-requires c =
-    let t = c.args.t in
-    let r = c.args.r in
-    let f = c.square-f.result in
-    let h : t ≤ f = omega arith in
-    (search rules, subst⁻¹ (λ (a : ℕ). a ≤ 2 ^ 53) (same t r f h) (omega arith), subst⁻¹ (Under t) (same t r f h) (under t r f c.square-f.ensures h))
-
-pub climb-requires : goal.climb-requires
-climb-requires c =
-    let t = c.args.t in
-    let r = c.args.r in
-    let f = c.square-f.result in
-    let h : f < t = omega arith in
-    (search rules, subst⁻¹ (Over t) (more t r f h) (above t r f c.square-f.ensures h))

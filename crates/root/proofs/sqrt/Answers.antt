@@ -4,33 +4,29 @@ use Prim.Native.Nat.{ℕ, ◌*◌, ◌^◌}
 use mathlib.Core.Bool.{true}
 use native.Mathlib.Omega.{arith}
 use lib.Dec.{T}
-use lib.Ieee.{Float, nan, binary64, div, fits, of_bits, to_bits}
-use lib.Ieee.Compare.{differs_from_itself}
+use lib.Ieee.{Float, nan, inf, fin, binary64, fits, is_nan, of_bits, to_bits}
 use Rattle.root.specs.Root.{root_bits, sqrt_of}
 use Rattle.root.proofs.Normal.{count_low, normal-is}
 use Rattle.root.specs.Examples.{root-zero, root-minus-zero, root-infinite}
 use Rattle.root.proofs.Value.{own-positive, own-other, own-kept}
-use Rattle.root.proofs.Patterns.{equals_itself}
 use Rattle.root.proofs.sqrt.Goals as goal
 
--- 0.0 / 0.0
-nan_is : div binary64 (of_bits binary64 0) (of_bits binary64 0) ≡ nan
-unfolding div of_bits
+nan_is : of_bits binary64 0x7ff8_0000_0000_0000 ≡ nan
+unfolding of_bits
 nan_is = refl
 
-root-nan : sqrt_of nan ≡ nan
-unfolding sqrt_of
-root-nan = refl
+root-nan : (x : Float) → is_nan x ≡ true → sqrt_of x ≡ nan
+unfolding sqrt_of is_nan
+root-nan nan h = refl
+root-nan (inf s) h = cc
+root-nan (fin s m e) h = cc
 
 -- what owning an `f64` tells: the format holds it
 held : (x : Float) → fits binary64 x ≡ true → T (fits binary64 x)
 held x e = subst T (sym e) tt
 
-pub returns-then-x : goal.returns-then-x
-returns-then-x c = nan_is ∙ sym (ap sqrt_of (differs_from_itself c.args.x (subst T (sym c.if-x.true) tt)) ∙ root-nan)
-
-pub float_to_bits-b : goal.float_to_bits-b
-float_to_bits-b c = equals_itself c.args.x c.if-x.false
+pub returns-then-is_nan : goal.returns-then-is_nan
+returns-then-is_nan c = nan_is ∙ sym (root-nan c.args.x (sym c.is_nan.ensures.value ∙ c.if-is_nan.true))
 
 pub returns-then-b-eq0 : goal.returns-then-b-eq0
 returns-then-b-eq0 c =

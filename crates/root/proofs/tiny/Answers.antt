@@ -13,17 +13,8 @@ use Rattle.root.proofs.tiny.Goals as goal
 whole : (b : ℕ) → 0 < b → b < 2 ^ 52 → raised b (count_leading_zeros 64 b) % 2 ^ 64 ≡ raised b (count_leading_zeros 64 b)
 whole b h t = mod-eq_of_lt (omega (arith, raised-bounds b h t))
 
-pub overflow_cast-z : goal.overflow_cast-z
-overflow_cast-z c = omega (arith, zeros-bounds c.args.b c.requires.0 c.requires.1)
-
 pub overflow_sub-z : goal.overflow_sub-z
 overflow_sub-z c = omega (arith, zeros-bounds c.args.b c.requires.0 c.requires.1)
-
-pub overflow_shl-b : goal.overflow_shl-b
-overflow_shl-b c = omega (arith, zeros-bounds c.args.b c.requires.0 c.requires.1)
-
-pub overflow_sub-z-2 : goal.overflow_sub-z-2
-overflow_sub-z-2 c = omega (arith, zeros-bounds c.args.b c.requires.0 c.requires.1)
 
 pub root-requires : goal.root-requires
 root-requires c = omega (arith, zeros-bounds c.args.b c.requires.0 c.requires.1, whole c.args.b c.requires.0 c.requires.1, raised-bounds c.args.b c.requires.0 c.requires.1)

@@ -1,13 +1,9 @@
 -- Assumes nothing.
 use native.Mathlib.Omega.{arith}
 use borrow.Author.Rules.{rules}
-use Rattle.members.proofs.Heads.{pushed_start}
 use Rattle.members.proofs.Pushes.{holding-yes, holding-no, holding-done}
 use Rattle.members.proofs.lists.holding.Goals as goal
 use Rattle.members.proofs.lists.holding.Goals.{then-h-g, else-h-g}
-
-pub loop-i-init : goal.loop-i-init
-loop-i-init c = (rw c.none-r.ensures (search rules), pushed_start _ _ c.none-r.ensures)
 
 pub loop-i-preserved : goal.loop-i-preserved
 loop-i-preserved c =

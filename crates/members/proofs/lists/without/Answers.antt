@@ -1,13 +1,9 @@
 -- Assumes nothing.
 use native.Mathlib.Omega.{arith}
 use borrow.Author.Rules.{rules}
-use Rattle.members.proofs.Heads.{pushed_start}
 use Rattle.members.proofs.Pushes.{without-yes, without-no, without-done}
 use Rattle.members.proofs.lists.without.Goals as goal
 use Rattle.members.proofs.lists.without.Goals.{then-c-k, else-c-k}
-
-pub loop-c-init : goal.loop-c-init
-loop-c-init c = (rw c.none-r.ensures (search rules), pushed_start _ _ c.none-r.ensures)
 
 pub loop-c-preserved : goal.loop-c-preserved
 loop-c-preserved c =

@@ -8,4 +8,4 @@ use Rattle.normal.proofs.half.half_row.Given as goal
 
 abbrev pub invariant-loop-k : goal.invariant-loop-k
 invariant-loop-k l =
-    (l.k ≤ l.i + 1) × (l.k-end ≡ l.i + 1) × (l.t ≡ triangle l.i) × (length l.h ≡ length l.initial.h) × (up_to (l.i + 1) l.k (put_one l.nf l.j l.i) l.h ≡ put_row l.nf l.j l.i l.initial.h)
+    (l.k ≤ l.i + 1) × (l.k-end ≡ l.i + 1) × (l.t ≡ triangle l.i) × (length l.h ≡ length l.initial.h) × (up_to (l.i + 1) l.k (put_one l.j.columns l.j.numbers.now l.i) l.h ≡ put_row l.j.columns l.j.numbers.now l.i l.initial.h)

@@ -7,4 +7,4 @@ use Rattle.normal.proofs.half.half_rows.Given as goal
 
 abbrev pub invariant-loop-i : goal.invariant-loop-i
 invariant-loop-i l =
-    (l.i ≤ l.rows) × (length l.h ≡ length l.initial.h) × (up_to l.rows l.i (put_row l.nf l.j) l.h ≡ up_to l.rows 0 (put_row l.nf l.j) l.initial.h)
+    (l.i ≤ l.j.rows) × (length l.h ≡ length l.initial.h) × (up_to l.j.rows l.i (put_row l.j.columns l.j.numbers.now) l.h ≡ up_to l.j.rows 0 (put_row l.j.columns l.j.numbers.now) l.initial.h)

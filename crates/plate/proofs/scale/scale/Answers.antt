@@ -1,13 +1,8 @@
--- What the calls promise, from the last to the first. Assumes nothing.
+-- What the calls promise, from the last to the first; the constant is the default past the end. Assumes nothing.
+use lib.Ieee.{div, of_bits}
 use Rattle.plate.specs.Scale.{scale_at}
 use Rattle.plate.proofs.scale.scale.Goals as goal
 
 pub returns : goal.returns
-unfolding scale_at
-returns c =
-    let put2 = c.put-2 in
-    let put = c.put in
-    let units = c.in_units-s in
-    let get2 = c.get-2 in
-    let get = c.get in
-    rw (put2.ensures, put.ensures, units.ensures, get2.ensures, get.ensures)
+unfolding scale_at div of_bits
+returns c = rw (c.put-2.ensures, c.put.ensures, c.in_units-s.ensures, c.get_or-2.ensures, c.get_or.ensures)

@@ -1,6 +1,5 @@
 -- What the equations that are left store gives the whole. Assumes nothing.
-use Rattle.std.proofs.Common.{◌≡◌, Bool, true, false, arith, rules, refl, ap, sym}
-use mathlib.Core.Bool.{◌||◌}
+use Rattle.std.proofs.Common.{arith, rules, refl, ap, sym}
 use borrow.Author.Tests.{ltb-false}
 use Rattle.loops.proofs.Picks.{pick_yes, pick_no}
 use Rattle.loops.proofs.Turning.{fold_done}

@@ -1,42 +1,18 @@
--- No count is over its bound, so each sort has room. Assumes nothing.
-use Prim.Native.Nat.{◌≤◌}
-use mathlib.Core.Bool.{false}
-use mathlib.Core.Path.{◌≡◌}
-use borrow.Author.Tests.{ltb-false}
-use lib.Dec.{ltb}
-use Rattle.loops.proofs.Picks.{none_of_four}
-use Rattle.text.specs.Reader.{over_counts, build_at}
-use Rattle.text.specs.declared.CountsRead.{CountsRead}
+-- Assumes nothing.
+use Rattle.std.proofs.Common.{sym, ap, ◌∙◌}
+use Rattle.sketch.specs.declared.Build.{Build}
+use Rattle.text.proofs.Rest.{within, filled-by, rest-is}
 use Rattle.text.proofs.reader.rest.Goals as goal
 
-within : (n : CountsRead) → over_counts n ≡ false → (n.points ≤ 40) × (n.lines ≤ 40) × (n.equations ≤ 40) × (n.measures ≤ 20)
-within n h =
-    let e = none_of_four (ltb 40 n.points) (ltb 40 n.lines) (ltb 40 n.equations) (ltb 20 n.measures) h in
-    (ltb-false 40 _ e.0, ltb-false 40 _ e.1, ltb-false 40 _ e.2, ltb-false 20 _ e.3)
-
-pub points-p-requires : goal.points-p-requires
-points-p-requires c = (within c.args.n c.requires).0
-
-pub lines-l-requires : goal.lines-l-requires
-lines-l-requires c = (within c.args.n c.requires).1
-
-pub equations-e-requires : goal.equations-e-requires
-equations-e-requires c = (within c.args.n c.requires).2
-
-pub measures-m-requires : goal.measures-m-requires
-measures-m-requires c = (within c.args.n c.requires).3
-
-pub returns : goal.returns
-unfolding build_at
-returns c =
-    rw (
-      c.measures-m.ensures,
-      c.equations-e.ensures,
-      c.lines-l.ensures,
-      c.points-p.ensures,
-      c.eat.ensures,
-      c.float-z.ensures,
-      c.word-2.ensures,
-      c.vec-v.ensures,
-      c.word.ensures,
-    )
+pub returns-then-at-s : goal.returns-then-at-s
+returns-then-at-s c =
+    let w = within c.args.n c.requires in
+    let e = c.empty.ensures in
+    rest-is c.args.s.now c.args.at c.args.n _ _ _ _ _ _ _ _ _ _ _ _ _ _ _
+    (sym c.word.ensures ∙ c.in_ok-word.was) (sym c.vec.ensures ∙ c.in_ok-centre.was) (sym c.word-2.ensures ∙ c.in_ok-word-2.was)
+    (sym c.float.ensures ∙ c.in_ok-size.was) (sym c.eat.ensures ∙ c.in_ok-at.was)
+    (filled-by _ _ _ _ _ _ _ _ _ _ w.0 (ap (λ (b : Build). b.points) e) c.items.ensures.read c.items.ensures.kept c.items.auto.places c.in_ok-at-2.was)
+    (filled-by _ _ _ _ _ _ _ _ _ _ w.1 (ap (λ (b : Build). b.lines) e) c.items-2.ensures.read c.items-2.ensures.kept c.items-2.auto.places c.in_ok-at-3.was)
+    (filled-by _ _ _ _ _ _ _ _ _ _ w.2 (ap (λ (b : Build). b.equations) e) c.items-3.ensures.read c.items-3.ensures.kept c.items-3.auto.places c.in_ok-at-4.was)
+    (filled-by _ _ _ _ _ _ _ _ _ _ w.3 (ap (λ (b : Build). b.measures) e) c.items-4.ensures.read c.items-4.ensures.kept c.items-4.auto.places c.in_ok-at-5.was)
+    c.if-at-s.true

@@ -1,8 +1,0 @@
-use mathlib.Core.Path.{◌≡◌}
-use lib.ListN.{length}
-use Rattle.loops.specs.Turns.{up_to}
-use Rattle.members.specs.Tables.{number_at, numbered_of}
-use Rattle.members.proofs.tables.number.Given as goal
-
-abbrev pub invariant-loop-k : goal.invariant-loop-k
-invariant-loop-k l = up_to (length l.items) l.k (number_at l.items) l.t ≡ numbered_of l.items l.initial.t

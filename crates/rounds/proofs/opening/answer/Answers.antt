@@ -1,8 +1,0 @@
-use Rattle.rounds.proofs.opening.answer.Goals as goal
-
-pub returns-then-e : goal.returns-then-e
-returns-then-e c = rw c.if-e.true
-
-pub returns : goal.returns
-returns c =
-    rw c.if-e.false
