@@ -16,12 +16,14 @@ pub struct Tally {
 }
 
 // A record has at least a byte, so no count comes near the bound, which keeps it from wrapping.
+#[tactic(auto, unfolding(crate::specs::Counted::one_more))]
 fn one_more(n: usize) -> usize
     ensures { result ≡ one_more n }
 {
     if n < 1_000_000_000 { n + 1 } else { n }
 }
 
+#[tactic(auto, unfolding(crate::specs::Counted::counted_of))]
 fn counted(t: Tally, end: usize, same: bool) -> Tally
     ensures { result ≡ counted_of t end same }
 {
@@ -29,13 +31,13 @@ fn counted(t: Tally, end: usize, same: bool) -> Tally
         Tally {
             at: end,
             same: one_more(t.same),
-            differ: t.differ,
+            ..t
         }
     } else {
         Tally {
             at: end,
-            same: t.same,
             differ: one_more(t.differ),
+            ..t
         }
     }
 }
@@ -48,24 +50,25 @@ fn tell(rt: HostRuntime, i: usize, told: usize, same: bool) {
 }
 
 // Record i is judged.
+#[tactic(auto, unfolding(crate::specs::Counted::judged_of))]
 fn judged(rt: HostRuntime, s: &[u8], i: usize, r: Record, t: Tally) -> Tally
     requires { Within r (length s.now) }
     ensures { result ≡ judged_of s.now r t }
 {
-    let text = r.text;
-    let reply = r.reply;
-    let end = r.end;
-    let same = is_reply(&s[text..reply], &s[reply..end]);
+    let same = is_reply(&s[r.text..r.reply], &s[r.reply..r.end]);
     tell(rt, i, t.differ, same);
-    counted(t, end, same)
+    counted(t, r.end, same)
 }
 
 // One record more. Where there is none the tally stays as it is, so that its place is before the pack's end.
+#[tactic(auto, unfolding(crate::specs::Counted::turn_of))]
 fn turn(rt: HostRuntime, s: &[u8], i: usize, t: Tally) -> Tally
     ensures { result ≡ turn_of s.now i t }
 {
-    let r = record_at(s, t.at);
-    if r.found { judged(rt, s, i, r, t) } else { t }
+    match record_at(s, t.at) {
+        Some(r) => judged(rt, s, i, r, t),
+        None => t,
+    }
 }
 
 // There are no more records than bytes; past the last one a turn finds nothing.

@@ -18,7 +18,8 @@ use Rattle.rounds.specs.Promise.{saying, zeroed, too_many, too_short, Solves, Le
 use Rattle.rounds.specs.Solve.{Problem, converged, opened, within, solve_of}
 use Rattle.rounds.specs.declared.Fit.{Fit}
 use Rattle.rounds.specs.declared.Solved.{Solved}
-use Rattle.rounds.specs.declared.Unfitted.TheVariants.{Failed}
+use Rattle.rounds.specs.declared.Unfitted.TheVariants.{Failed, Refused}
+use Rattle.slices.specs.declared.Refusal.TheVariants.{TooShort}
 
 -- a fit from x with its own residuals r, by what is asked of it first
 module _ (P : Problem) (J : List Float → List Float) (x r : List Float) (w : Bool) (own : r ≡ P.values x) (e : w ≡ within r) where
@@ -55,6 +56,17 @@ module _ (es : List Active) (ls : List Line) (places columns chosen free : List 
     (few : length chosen ≤ 40) (narrow : length free ≤ 80) (short : length x ≤ 80) where
   none-many : too_many es ls places columns chosen free x a b c ≡ false
   none-many = rw (le-ltb 40 (length chosen) few, le-ltb 80 (length free) narrow, le-ltb 80 (length x) short)
+
+  pub refused_short : (s : Solved) → too_short es ls places columns chosen free x a b c ≡ true → s ≡ saying (Err (Refused TooShort)) 0 0
+      → Solves es ls places columns chosen free x a b c x a b c s
+  refused_short s h e = record {
+    answer = rw (none-many, h, e);
+    meaning = rw (e, none-many, h);
+    coordinates = rw (none-many, h);
+    jacobian = rw (none-many, h);
+    product = rw (none-many, h);
+    copy = rw (none-many, h);
+  }
 
   module _ (la : 6400 ≤ length a) (lb : 6400 ≤ length b) (lc : 6400 ≤ length c) (here y a' b' c' : List Float) (begins : here ≡ x) (f : Fit) (s : Solved) where
     n : too_short es ls places columns chosen free x a b c ≡ false

@@ -29,7 +29,7 @@ fn opened(
     if p.free.is_empty() {
         return Err(Fit::start(0.0));
     }
-    all_rounds(p, x, r, j, h, w, Fit::start(solver::norm2(r)))
+    all_rounds(p, x, r, j, h, w)
 }
 
 // The Jacobian lies in a, the half of the product in b and its working copy in c; what they held there is +0.0 afterwards.

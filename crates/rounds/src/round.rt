@@ -1,6 +1,7 @@
 // The rounds.
 ghost use Rattle.std.specs.Prelude.{◌≡◌, ◌≤◌, length};
-ghost use Rattle.rounds.specs.Inside.{Shapes, Matrices, Own, problem_in, jacobian_in, step_of, ended_of};
+ghost use Rattle.solver.specs.Sums.{norm2_of};
+ghost use Rattle.rounds.specs.Inside.{Shapes, Matrices, Own, problem_in, jacobian_in, started_fit, step_of, ended_of};
 ghost use Rattle.rounds.specs.Problem.{state_of};
 ghost use Rattle.rounds.specs.Solve.{within, rounds_of};
 
@@ -38,17 +39,15 @@ pub(crate) fn all_rounds(
     j: &mut [f64],
     h: &mut [f64],
     w: &mut [f64],
-    fit: Fit,
 ) -> Result<Fit, Fit>
-    requires { Shapes p.now j.old r.old × Matrices p.now h.old w.old × (length x.old ≤ 80)
-        × Own p.now x.old r.old × (fit.iterations ≤ 0) × (fit.tries ≤ 0) }
-    ensures { ended_of x.new result ≡ rounds_of (problem_in p.now) (jacobian_in p.now) 200 (state_of x.old r.old fit) }
+    requires { Shapes p.now j.old r.old × Matrices p.now h.old w.old × (length x.old ≤ 80) × Own p.now x.old r.old }
+    ensures { ended_of x.new result ≡ rounds_of (problem_in p.now) (jacobian_in p.now) 200 (state_of x.old r.old (started_fit (norm2_of r.old))) }
 {
     let mut xn = [0.0; 80];
     let xn = &mut xn[..x.len()];
     let mut rn = [0.0; 80];
     let rn = &mut rn[..r.len()];
-    let mut f = fit;
+    let mut f = Fit::start(solver::norm2(r));
     for _ in 0..Fit::MAX_ITER {
         p.jacobian(x, j);
         let tried = all_tries(p, j, x, r, h, w, xn, rn, f);

@@ -25,7 +25,7 @@ impl Located<'_> {
         usize::from(slices::get_or(self.places, p.0, 0))
     }
 
-    pub fn at(self, p: PointNo) -> Vec2
+    pub(crate) fn at(self, p: PointNo) -> Vec2
         ensures { result ≡ seen self.entry p }
     {
         let k = self.local(p);
@@ -44,7 +44,7 @@ impl Located<'_> {
 
     // The distance alone, where no direction is asked for.
     #[tactic(auto, unfolding(plane::specs::Vectors::unit_from_of))]
-    pub fn apart(self, a: PointNo, b: PointNo) -> f64
+    pub(crate) fn apart(self, a: PointNo, b: PointNo) -> f64
         ensures { result ≡ (unit_from_of (seen self.entry a) (seen self.entry b)).len }
     {
         plane::norm(self.offset(a, b))

@@ -6,8 +6,8 @@ use plane::Vec2;
 use rows::Located;
 use sketch::{FreeNo, PointNo};
 
-// A row of n free coordinates, which starts at `base` in the lent slice, and where the points that it is about stand, there and among
-// the free coordinates.
+// A row of n free coordinates, which starts at `base` in the lent slice, with where points stand and the position of each coordinate
+// among the free ones.
 #[derive(Clone, Copy)]
 pub(crate) struct Dense<'a> {
     pub points: Located<'a>,
@@ -51,6 +51,7 @@ impl Dense<'_> {
     pub fn clear(self, jac: &mut [f64])
         ensures { jac.new ≡ cleared self.entry jac.old }
     {
+        // By index: the row may end past the slice, where nothing is stored.
         for c in 0..self.n {
             slices::put(jac, self.base + c, 0.0);
         }

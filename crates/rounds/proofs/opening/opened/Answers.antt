@@ -15,4 +15,4 @@ returns-then-is_empty c =
 pub returns : goal.returns
 returns c =
     let so = solves (problem_in c.args.p.now) (jacobian_in c.args.p.now) c.args.x.now c.args.r.now _ c.requires.3 c.within.ensures _ c.is_empty.ensures in
-    c.all_rounds.ensures ∙ rw (c.start-2.ensures, c.norm2.ensures, c.requires.3) (rw (c.if-within.false, c.if-is_empty.false) at so)
+    c.all_rounds.ensures ∙ rw c.requires.3 (rw (c.if-within.false, c.if-is_empty.false) at so)
