@@ -1,5 +1,5 @@
 // `solver` and `nullspace`: bare matrices and lists.
-ghost use Rattle.std.specs.Prelude.{◌≡◌};
+ghost use Rattle.std.specs.Prelude.{◌≡◌, Err};
 ghost use Rattle.floats.specs.Largest.{max_abs_of};
 ghost use Rattle.solver.specs.Sums.{norm2_of};
 ghost use Rattle.rooms_c.specs.Code.{SolvesC, SpansC, IsNamed, solved_code, rank_code, refusal_code};
@@ -22,18 +22,20 @@ fn number(why: Refusal) -> usize
 pub extern "C" fn rooms_solve_dense(a: &mut [f64], b: &mut [f64], n: usize) -> usize
     ensures { SolvesC n a.old b.old a.new b.new result }
 {
-    code(solver::solve_dense(a, b, n))
+    match solver::solve_dense(a, b, n) {
+        Ok(()) => 0,
+        Err(why) => code(why),
+    }
 }
 
-fn code(solved: Result<(), Unsolved>) -> usize
-    requires { IsNamed solved }
-    ensures { result ≡ solved_code solved }
+fn code(why: Unsolved) -> usize
+    requires { IsNamed (Err why) }
+    ensures { result ≡ solved_code (Err why) }
 {
-    match solved {
-        Ok(()) => 0,
-        Err(Unsolved::NoPivot(column)) => 256 + column,
-        Err(Unsolved::NotFinite) => 255,
-        Err(Unsolved::Refused(why)) => number(why),
+    match why {
+        Unsolved::NoPivot(column) => 256 + column,
+        Unsolved::NotFinite => 255,
+        Unsolved::Refused(why) => number(why),
     }
 }
 
