@@ -18,8 +18,9 @@ use Rattle.solver.specs.Promise.{Finds, Solves, checked, found, or_zeros, solved
 use Rattle.solver.specs.Reasons.{Reasoned, some, no_pivot, not_finite, on_some, reasoned_of}
 use Rattle.solver.specs.declared.Unsolved.{Unsolved}
 use Rattle.solver.specs.declared.Unsolved.TheVariants.{NoPivot, NotFinite}
-use Rattle.rounds.specs.Inside.{reason_of, harder_fit, trial_made}
+use Rattle.rounds.specs.Inside.{harder_fit, trial_made}
 use Rattle.rounds.specs.Problem.{state_of, tried_of}
+use Rattle.rounds.specs.Reasons.{reason_of}
 use Rattle.rounds.specs.Solve.{Problem, State, Trial, Tried, harder, judged, trial_at, trial_of, try_of}
 use Rattle.rounds.specs.declared.Fit.{Fit}
 

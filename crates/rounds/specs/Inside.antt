@@ -7,12 +7,11 @@ use Rattle.floats.specs.Ops.{◌⊗◌, ten, tenth, 1e-10, 1e-15}
 use Rattle.normal.specs.Half.{triangle}
 use Rattle.normal.specs.Normal.{product_of, diag_max_of}
 use Rattle.solver.specs.Sums.{norm2_of}
-use Rattle.solver.specs.declared.Unsolved.{Unsolved}
 use Rattle.rounds.specs.Problem.{row_count, values_at, jacobian_at, problem_of}
 use Rattle.rounds.specs.Solve.{Problem, State, Trial, Tried, Outcome, converged, failed, max_tries, tries_of}
 use Rattle.rounds.specs.declared.Fit.{Fit}
 use Rattle.rounds.specs.declared.Reason.{Reason}
-use Rattle.rounds.specs.declared.Reason.TheVariants.{NothingFree, NoPivot, NotFinite, Spent}
+use Rattle.rounds.specs.declared.Reason.TheVariants.{NothingFree, Spent}
 use Rattle.rounds.specs.declared.task.Task.{Task}
 
 -- ---- the steps of `Fit`, each a step of the state that it is part of
@@ -47,12 +46,6 @@ abbrev pub problem_in : Task → Problem
 problem_in p = problem_of p.equations.now p.lines.now p.places.now p.chosen.now p.free.now (rows_in p)
 
 -- ---- an attempt
-
--- why a try came to nothing, by its elimination; its shape is the fit's own, so it is not refused
-abbrev pub reason_of : Unsolved → Reason
-reason_of (Unsolved.NoPivot c) = NoPivot c
-reason_of Unsolved.NotFinite = NotFinite
-reason_of (Unsolved.Refused w) = NotFinite
 
 -- the trial whose coordinates and residuals lie in two slices
 abbrev pub trial_made : List Float → List Float → Trial

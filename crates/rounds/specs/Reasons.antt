@@ -3,6 +3,7 @@ use Rattle.std.specs.Prelude.{ℕ, zero, suc, ◌+◌, ◌≤◌, ◌<◌, Bool,
 use Rattle.loops.specs.Turns.{Try, go, stop, try_to}
 use Rattle.normal.specs.Normal.{product_of, diag_max_of}
 use Rattle.solver.specs.Reasons.{Reasoned, some, no_pivot, not_finite}
+use Rattle.solver.specs.declared.Unsolved.{Unsolved}
 use Rattle.rounds.specs.Solve.{Problem, State, Trial, Tried, failed, max_iter, max_tries, within, better, trial_of, try_of, begun, polished, start_of, round_of, solve_of}
 use Rattle.rounds.specs.declared.Reason.{Reason}
 use Rattle.rounds.specs.declared.Reason.TheVariants.{NothingFree, NoPivot, NotFinite, NotLess, Spent}
@@ -23,6 +24,12 @@ named_column (NoPivot c) = c
 named_column NotFinite = 0
 named_column NotLess = 0
 named_column Spent = 0
+
+-- why a try came to nothing, by its elimination; its shape is the fit's own, so it is not refused
+abbrev pub reason_of : Unsolved → Reason
+reason_of (Unsolved.NoPivot c) = NoPivot c
+reason_of Unsolved.NotFinite = NotFinite
+reason_of (Unsolved.Refused w) = NotFinite
 
 -- those of an ending: 0 where the fit did not fail
 abbrev pub code_in : Result (Unit {0}) Unfitted → ℕ

@@ -4,8 +4,9 @@ ghost use Rattle.normal.specs.Half.{triangle, spread_of};
 ghost use Rattle.normal.specs.Normal.{damped_of};
 ghost use Rattle.solver.specs.Promise.{Finds};
 ghost use Rattle.solver.specs.Reasons.{some};
-ghost use Rattle.rounds.specs.Inside.{reason_of, trial_made, problem_in, rows_in, Matrices, Shapes, Trying};
+ghost use Rattle.rounds.specs.Inside.{trial_made, problem_in, rows_in, Matrices, Shapes, Trying};
 ghost use Rattle.rounds.specs.Problem.{state_of, tried_of};
+ghost use Rattle.rounds.specs.Reasons.{reason_of};
 ghost use Rattle.rounds.specs.Solve.{judged, try_of};
 
 use crate::task::Task;
