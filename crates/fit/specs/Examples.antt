@@ -12,7 +12,7 @@ use Rattle.groups.specs.Listed.{numbered_of, entered_of, point_of, list_point, l
 use Rattle.groups.specs.Parents.{climb, root_of, join_to, join_all, self_at, joined}
 use Rattle.groups.specs.Tied.{tie_to, tie_all, tied_in}
 use Rattle.groups.specs.Touches.{touched_in}
-use Rattle.loops.specs.Turns.{turns, up_to, fold, every}
+use Rattle.loops.specs.Turns.{turns, up_to}
 use Rattle.members.specs.Movable.{nowhere}
 use Rattle.rows.specs.Column.{equation_at}
 use Rattle.sketch.specs.Blank.{origin, point_in, blank_point, blank_active, sample}

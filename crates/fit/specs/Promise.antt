@@ -1,25 +1,27 @@
 -- What the calls `fit`, `freedom` and `suspects` answer and leave in each lent area, for every input.
-use Rattle.std.specs.Prelude.{ℕ, ◌-◌, ◌*◌, Bool, true, false, cond, ◌||◌, List, ◌++◌, ◌≡◌, ltb, Float, length, replicate}
+use Rattle.std.specs.Prelude.{ℕ, ◌-◌, ◌*◌, Bool, cond, ◌||◌, List, ◌++◌, ◌≡◌, ltb, Float, length, replicate, Result, Ok, Err}
 use Rattle.floats.specs.Only.{only-answer}
 use Rattle.floats.specs.Ops.{zero⁺}
-use Rattle.loops.specs.Numbers.{Meaning, refused, values, too_short, too_many_rows, not_converged}
+use Rattle.loops.specs.Numbers.{Meaning, refused, values, too_many, too_short, too_many_rows, not_converged}
 use Rattle.loops.specs.Turns.{fold}
 use Rattle.members.specs.Lists.{numbers_of, without_of}
 use Rattle.members.specs.Movable.{indices_of}
 use Rattle.members.specs.declared.Equations.{Equations}
 use Rattle.normal.specs.Half.{triangle}
 use Rattle.rounds.specs.Problem.{row_count}
-use Rattle.rounds.specs.Promise.{zeroed, saying}
-use Rattle.rounds.specs.Promise as rounds
+use Rattle.rounds.specs.Promise.{zeroed}
 use Rattle.rounds.specs.Solve.{Outcome, converged, failed}
-use Rattle.rounds.specs.declared.FitEnding.TheVariants.{Converged, Failed, TooShort}
+use Rattle.rounds.specs.declared.Unfitted.{Unfitted}
+use Rattle.rounds.specs.declared.Unfitted.TheVariants.{Failed, Refused}
 use Rattle.sketch.specs.declared.Build.{Build}
+use Rattle.slices.specs.declared.Refusal.{Refusal}
+use Rattle.slices.specs.declared.Refusal.TheVariants.{TooMany, TooShort}
 use Rattle.fit.specs.Fits.{outcome_in, freedom_of, suspects_of}
 use Rattle.fit.specs.Frames.{start_in}
-use Rattle.fit.specs.declared.Degrees.{Degrees}
 use Rattle.fit.specs.declared.Fitted.{Fitted}
 use Rattle.fit.specs.declared.Frame.{Frame}
-use Rattle.fit.specs.declared.Marked.{Marked}
+use Rattle.fit.specs.declared.NotFitted.{NotFitted}
+use Rattle.fit.specs.declared.Uncounted.{Uncounted}
 
 -- 9: an area shorter than 6,400
 abbrev pub short : List Float → List Float → List Float → Bool
@@ -42,22 +44,28 @@ abbrev pub padded : ℕ → List Float → List Float
 padded n x = x ++ replicate (80 - n) zero⁺
 
 -- only a fit that converged shows coordinates
-abbrev pub fitted_by : ℕ → Outcome → Fitted
-fitted_by n (converged x i t) = record { solved = saying Converged i t; x = padded n x }
-fitted_by n (failed w i t) = record { solved = saying (Failed w) i t; x = replicate 80 zero⁺ }
+abbrev pub fitted_by : ℕ → Outcome → Result Fitted NotFitted
+fitted_by n (converged x i t) = Ok (record { x = padded n x; iterations = i; tries = t })
+fitted_by n (failed w i t) = Err (record { why = Failed w; iterations = i; tries = t })
 
-abbrev pub refusal : Fitted
-refusal = record { solved = saying TooShort 0 0; x = replicate 80 zero⁺ }
+abbrev pub refusal : Result Fitted NotFitted
+refusal = Err (record { why = Refused TooShort; iterations = 0; tries = 0 })
 
 -- what an answer says in document 01's terms: the coordinates, iterations and tries of a fit that converged, or 01's number
-abbrev pub fit_meaning : Fitted → Meaning (List Float × ℕ × ℕ)
-fit_meaning t = rounds.meaning_of t.x t.solved
+abbrev pub fit_meaning : Result Fitted NotFitted → Meaning (List Float × ℕ × ℕ)
+fit_meaning (Ok t) = values (t.x, t.iterations, t.tries)
+fit_meaning (Err u) = by u.why
+  where
+    by : Unfitted → Meaning (List Float × ℕ × ℕ)
+    by (Failed w) = refused not_converged
+    by (Refused TooMany) = refused too_many
+    by (Refused TooShort) = refused too_short
 
 abbrev pub fit_meant : ℕ → Outcome → Meaning (List Float × ℕ × ℕ)
 fit_meant n (converged x i t) = values (padded n x, i, t)
 fit_meant n (failed w i t) = refused not_converged
 
-pub record FitsChosen (b : Build) (f : Frame) (chosen : Equations) (p q r p' q' r' : List Float) (t : Fitted) : Type 0 where
+pub record FitsChosen (b : Build) (f : Frame) (chosen : Equations) (p q r p' q' r' : List Float) (t : Result Fitted NotFitted) : Type 0 where
   pub answer : t ≡ cond (short p q r) refusal (fitted_by (length (start_in b f)) (outcome_in b f (numbers_of chosen.0)))
   pub meaning : fit_meaning t ≡ cond (short p q r) (refused too_short) (fit_meant (length (start_in b f)) (outcome_in b f (numbers_of chosen.0)))
   pub jacobian : p' ≡ cond (short p q r) p (zeroed (wide b f (numbers_of chosen.0)) p)
@@ -70,16 +78,16 @@ abbrev pub frame_over_rows : Build → Frame → Bool
 frame_over_rows b f = ltb 64 (row_count b.equations (numbers_of f.equations.0))
 
 -- 01's numbers for the call, in 01's order: 9, then 6
-abbrev pub meaning_of : Degrees → Meaning ℕ
-meaning_of (Degrees.Of n) = values n
-meaning_of Degrees.TooShort = refused too_short
-meaning_of Degrees.TooManyRows = refused too_many_rows
+abbrev pub meaning_of : Result ℕ Uncounted → Meaning ℕ
+meaning_of (Ok n) = values n
+meaning_of (Err Uncounted.TooShort) = refused too_short
+meaning_of (Err Uncounted.TooManyRows) = refused too_many_rows
 
 abbrev pub checked : {A : Type 0} → Build → Frame → List Float → List Float → List Float → A → A → A → A
 checked b f p q r nine six done = cond (short p q r) nine (cond (frame_over_rows b f) six done)
 
-pub record Frees (b : Build) (f : Frame) (x p q r p' q' r' : List Float) (t : Degrees) : Type 0 where
-  pub answer : t ≡ checked b f p q r Degrees.TooShort Degrees.TooManyRows (Degrees.Of (freedom_of b f x))
+pub record Frees (b : Build) (f : Frame) (x p q r p' q' r' : List Float) (t : Result ℕ Uncounted) : Type 0 where
+  pub answer : t ≡ checked b f p q r (Err Uncounted.TooShort) (Err Uncounted.TooManyRows) (Ok (freedom_of b f x))
   pub meaning : meaning_of t ≡ checked b f p q r (refused too_short) (refused too_many_rows) (values (freedom_of b f x))
   pub jacobian : p' ≡ checked b f p q r p p (zeroed (wide b f (numbers_of f.equations.0)) p)
   pub work : q' ≡ checked b f p q r q q (zeroed (wide b f (numbers_of f.equations.0)) q)
@@ -101,11 +109,13 @@ unfoldable pub copy_left : Build → Frame → List Float → ℕ → List Float
 copy_left b f r k = zeroed (square b (withouts b f k)) r
 
 -- 9 where an area is too short, or the marks
-abbrev pub marked_of : Marked → Meaning (List Bool)
-marked_of t = cond t.short (refused too_short) (values t.marks)
+abbrev pub marked_of : Result (List Bool) Refusal → Meaning (List Bool)
+marked_of (Ok marks) = values marks
+marked_of (Err TooMany) = refused too_many
+marked_of (Err TooShort) = refused too_short
 
-pub record Marks (b : Build) (f : Frame) (p q r p' q' r' : List Float) (t : Marked) : Type 0 where
-  pub answer : t ≡ cond (short p q r) (record { short = true; marks = replicate 40 false }) (record { short = false; marks = suspects_of b f })
+pub record Marks (b : Build) (f : Frame) (p q r p' q' r' : List Float) (t : Result (List Bool) Refusal) : Type 0 where
+  pub answer : t ≡ cond (short p q r) (Err TooShort) (Ok (suspects_of b f))
   pub meaning : marked_of t ≡ cond (short p q r) (refused too_short) (values (suspects_of b f))
   pub jacobian : p' ≡ cond (short p q r) p (fold (jacobian_left b f) p (numbers_of f.equations.0))
   pub product : q' ≡ cond (short p q r) q (fold (product_left b f) q (numbers_of f.equations.0))
@@ -114,14 +124,14 @@ pub record Marks (b : Build) (f : Frame) (p q r p' q' r' : List Float) (t : Mark
 -- ---- no second answer, and no other content of a lent place, meets a promise
 
 module _ {b : Build} {f : Frame} {p q r p₁ q₁ r₁ p₂ q₂ r₂ : List Float} where
-  pub only-fit : {chosen : Equations} {t u : Fitted} → FitsChosen b f chosen p q r p₁ q₁ r₁ t → FitsChosen b f chosen p q r p₂ q₂ r₂ u → (t ≡ u) × (p₁ ≡ p₂) × (q₁ ≡ q₂) × (r₁ ≡ r₂)
+  pub only-fit : {chosen : Equations} {t u : Result Fitted NotFitted} → FitsChosen b f chosen p q r p₁ q₁ r₁ t → FitsChosen b f chosen p q r p₂ q₂ r₂ u → (t ≡ u) × (p₁ ≡ p₂) × (q₁ ≡ q₂) × (r₁ ≡ r₂)
   only-fit m n =
       (only-answer m.answer n.answer, only-answer m.jacobian n.jacobian, only-answer m.product n.product, only-answer m.copy n.copy)
 
-  pub only-freedom : {x : List Float} {t u : Degrees} → Frees b f x p q r p₁ q₁ r₁ t → Frees b f x p q r p₂ q₂ r₂ u → (t ≡ u) × (p₁ ≡ p₂) × (q₁ ≡ q₂) × (r₁ ≡ r₂)
+  pub only-freedom : {x : List Float} {t u : Result ℕ Uncounted} → Frees b f x p q r p₁ q₁ r₁ t → Frees b f x p q r p₂ q₂ r₂ u → (t ≡ u) × (p₁ ≡ p₂) × (q₁ ≡ q₂) × (r₁ ≡ r₂)
   only-freedom m n =
       (only-answer m.answer n.answer, only-answer m.jacobian n.jacobian, only-answer m.work n.work, only-answer m.basis n.basis)
 
-  pub only-marks : {t u : Marked} → Marks b f p q r p₁ q₁ r₁ t → Marks b f p q r p₂ q₂ r₂ u → (t ≡ u) × (p₁ ≡ p₂) × (q₁ ≡ q₂) × (r₁ ≡ r₂)
+  pub only-marks : {t u : Result (List Bool) Refusal} → Marks b f p q r p₁ q₁ r₁ t → Marks b f p q r p₂ q₂ r₂ u → (t ≡ u) × (p₁ ≡ p₂) × (q₁ ≡ q₂) × (r₁ ≡ r₂)
   only-marks m n =
       (only-answer m.answer n.answer, only-answer m.jacobian n.jacobian, only-answer m.product n.product, only-answer m.copy n.copy)

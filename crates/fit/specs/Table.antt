@@ -12,7 +12,7 @@ use Rattle.groups.specs.Listed.{grouping_of}
 use Rattle.groups.specs.declared.Grouping.{Grouping}
 use Rattle.level.specs.Examples as level-worked
 use Rattle.level.specs.Level.{level_of}
-use Rattle.loops.specs.Turns.{go, fold}
+use Rattle.loops.specs.Turns.{go}
 use Rattle.members.specs.Examples.{Unmoved, unmoved}
 use Rattle.root.specs.Examples.{root-two, root-least, root-minus-zero}
 use Rattle.root.specs.Root.{sqrt_of}

@@ -1,66 +1,50 @@
 // The fit of a frame with some of its equations.
 ghost use Rattle.std.specs.Prelude.{◌≡◌};
-ghost use Rattle.fit.specs.Inside.{shown_of};
 ghost use Rattle.fit.specs.Promise.{FitsChosen};
 
-use crate::{Fitted, Frame};
-use loops::smaller;
+use crate::{Fitted, Frame, NotFitted};
 use members::Equations;
-use rounds::{FitEnding, Posed, Solved};
+use rounds::Posed;
 use sketch::Build;
 
-// Only what has converged is shown.
-fn shown(s: Solved, x: [f64; 80]) -> Fitted
-    ensures { result ≡ shown_of s x }
-{
-    let ending = s.ending;
-    match ending {
-        FitEnding::Converged => Fitted { solved: s, x },
-        FitEnding::Failed(_) => Fitted {
-            solved: s,
-            x: [0.0; 80],
-        },
-        FitEnding::TooMany => Fitted {
-            solved: s,
-            x: [0.0; 80],
-        },
-        FitEnding::TooShort => Fitted {
-            solved: s,
-            x: [0.0; 80],
-        },
-    }
-}
-
-// The fit of the frame with the chosen equations.
+// The fit of the frame with the chosen equations. Only what has converged is shown.
 pub fn fit(
-    b: Build,
-    f: Frame,
-    chosen: Equations,
+    b: &Build,
+    f: &Frame,
+    chosen: &Equations,
     p: &mut [f64],
     q: &mut [f64],
     r: &mut [f64],
-) -> Fitted
-    ensures { FitsChosen b f chosen p.old q.old r.old p.new q.new r.new result }
+) -> Result<Fitted, NotFitted>
+    ensures { FitsChosen b.now f.now chosen.now p.old q.old r.old p.new q.new r.new result }
 {
-    let points = b.points;
-    let centre = b.centre;
-    let listed = f.points;
     let mut x = [0.0; 80];
-    members::start(points, centre, b.size, listed, &mut x);
-    let n = 2 * smaller(listed.0.count, 40);
-    let equations = b.equations;
-    let lines = b.lines;
-    let places = f.places;
-    let columns = f.columns;
-    let free = f.free;
+    members::start(&b.points, b.centre, b.size, &f.points, &mut x);
+    let n = 2 * f.points.0.numbers().len();
+    // Looked at for the proof alone: no more are chosen, and no more are free, than there are places.
+    let _chosen = chosen.0.numbers();
+    let _free = f.free.0.numbers();
     let posed = Posed {
-        equations,
-        lines,
+        equations: &b.equations,
+        lines: &b.lines,
         chosen,
-        places,
-        columns,
-        free,
+        places: &f.places,
+        columns: &f.columns,
+        free: &f.free,
     };
-    let s = rounds::solve(posed, &mut x[..n], p, q, r);
-    shown(s, x)
+    let s = rounds::solve(&posed, &mut x[..n], p, q, r);
+    let iterations = s.iterations;
+    let tries = s.tries;
+    match s.ending {
+        Ok(()) => Ok(Fitted {
+            x,
+            iterations,
+            tries,
+        }),
+        Err(why) => Err(NotFitted {
+            why,
+            iterations,
+            tries,
+        }),
+    }
 }

@@ -13,7 +13,7 @@ pub use frames::set_out;
 pub use marks::suspects;
 use members::{Coordinates, Equations, Points};
 pub use ranks::freedom;
-use rounds::Solved;
+use rounds::Unfitted;
 
 // A group set out for its fit: its points and equations, its free coordinates, and the tables of places and columns.
 #[derive(Clone, Copy)]
@@ -25,26 +25,27 @@ pub struct Frame {
     pub columns: [u8; 80],
 }
 
-// How a fit ended, and its coordinates at the head of x: zeros unless it converged.
+// A fit that converged: its coordinates at the head of x, and zeros past them.
 #[derive(Clone, Copy)]
 pub struct Fitted {
-    pub solved: Solved,
     pub x: [f64; 80],
+    pub iterations: usize,
+    pub tries: usize,
 }
 
-// What the freedom of a group comes to. A refusal changes nothing that is lent.
-#[derive(Clone, Copy)]
-pub enum Degrees {
-    Of(usize),
+// A fit that did not: it has no coordinates to show.
+#[derive(Clone, Copy, Debug, PartialEq, Eq)]
+pub struct NotFitted {
+    pub why: Unfitted,
+    pub iterations: usize,
+    pub tries: usize,
+}
+
+// Why no freedom is counted. It changes nothing that is lent.
+#[derive(Clone, Copy, Debug, PartialEq, Eq)]
+pub enum Uncounted {
     // 9: a work area shorter than 6,400.
     TooShort,
     // 6: more than 64 rows.
     TooManyRows,
-}
-
-// Whether each equation is a suspect; `short` is 9, a work area shorter than 6,400.
-#[derive(Clone, Copy)]
-pub struct Marked {
-    pub short: bool,
-    pub marks: [bool; 40],
 }

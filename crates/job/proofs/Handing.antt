@@ -23,10 +23,13 @@ unfolding gauged_of
 gauged-length b points h l = rw (length-map, length-take, l) (min-eq_left h)
 
 -- y are the points levelled, and z what the call for the measures left
-module _ (b : Build) (fitted pts y out out₁ z : List Float) (n : ℕ) (twice : n ≡ 2 * b.point_count) (few : b.measure_count ≤ 20) (places : length b.measures ≡ 20)
+module _ (b : Build) (fitted pts y out h z : List Float) (n : ℕ) (twice : n ≡ 2 * b.point_count) (few : b.measure_count ≤ 20) (places : length b.measures ≡ 20)
     (room : 2 * b.point_count + b.measure_count ≤ length out) (long : length y ≡ n) (placed : pts ≡ placed_in b.points fitted)
-    (level : y ≡ level_of b (take n pts)) (copy : out₁ ≡ copied_of (take n (y ++ drop n pts)) out)
-    (measure : z ≡ measured_in b (take n (y ++ drop n pts)) (take (length out₁ - n) (drop n out₁))) where
+    (level : y ≡ level_of b (take n pts)) (copy : h ≡ take n (y ++ drop n pts))
+    (measure : z ≡ measured_in b (take n (y ++ drop n pts)) (take (length (h ++ drop n out) - n) (drop n (h ++ drop n out)))) where
+  abbrev out₁ : List Float
+  out₁ = h ++ drop n out
+
   points-are : take n (y ++ drop n pts) ≡ y
   points-are = take_at y (drop n pts) n long
 
@@ -35,7 +38,7 @@ module _ (b : Build) (fitted pts y out out₁ z : List Float) (n : ℕ) (twice :
   levelled-are = rw (← twice, ← placed) level
 
   laid : out₁ ≡ y ++ drop n out
-  laid = copy ∙ rw points-are (copied y out n long (omega arith))
+  laid = rw (copy, points-are)
 
   measures-are : z ≡ gauged_of b y ++ drop (n + b.measure_count) out
   unfolding measured_in

@@ -1,20 +1,29 @@
--- The turns of the loops over the points, and the sizes of what an array of a struct holds. Assumes nothing.
+-- The turns of the loops over the points. Assumes nothing.
 use Prim.Native.Nat.{ℕ, ◌+◌, ◌<◌}
-use mathlib.Core.List.{List, map}
-use mathlib.Core.Path.{◌≡◌, sym, ◌∙◌}
+use mathlib.Core.List.{List}
+use mathlib.Core.Path.{◌≡◌, refl}
 use lib.Ieee.{Float}
-use lib.ListN.{length, get_or, length-map}
+use lib.ListN.{length, get_or}
 use Rattle.loops.proofs.Parts.{any-default}
 use Rattle.loops.specs.Turns.{up_to}
 use Rattle.loops.proofs.Turning.{up_to-next}
 use Rattle.members.specs.Movable.{nowhere}
 use Rattle.members.specs.Scale.{put_point}
+use Rattle.plane.specs.declared.Vec2.{Vec2}
 use Rattle.sketch.specs.declared.Point.{Point}
+use Rattle.sketch.specs.declared.State.{State}
+use Rattle.sketch.specs.declared.State.TheVariants.{Free, Kept, Placed}
 use Rattle.job.specs.Points.{drawn_at, place_state, place_at}
 
--- how many there are: owning the struct tells, of the values as the struct holds them
-pub sized : {A B : Type 0} (f : A → B) (n : ℕ) (l : List A) → length (map f l) ≡ n → length l ≡ n
-sized f n l e = sym (length-map l f) ∙ e
+-- a placed point goes to its place
+pub places : (s : State) (at : Vec2) (p : ℕ) (out out' : List Float) → s ≡ Placed at → out' ≡ put_point p at out → out' ≡ place_state s p out
+places s at p out out' h e = rw h e
+
+-- a point that is not placed leaves all as it was
+pub stays : (s : State) (p : ℕ) (out : List Float) → ((at : Vec2) → s ≡ Placed at → ⊥) → out ≡ place_state s p out
+stays Free p out h = refl
+stays Kept p out h = refl
+stays (Placed at) p out h = absurd (h at refl)
 
 module _ (points : List Point) (d : Point) (p : ℕ) (out out' R : List Float) (l : length points ≡ 40) (h : p < 40) where
   same : get_or points p d ≡ get_or points p nowhere

@@ -10,6 +10,7 @@ use lib.Ieee.{Float, nan}
 use lib.Dec.{ltb}
 use lib.ListN.{length, get_or, set, take, replicate, length-take, length-set, length-replicate}
 use lib.Seq.{take_at}
+use Rattle.std.specs.Prelude.{Ok}
 use Rattle.fit.specs.Groups.{frame_in, outcome_at}
 use Rattle.fit.specs.declared.Frame.{Frame}
 use Rattle.floats.specs.Ops.{zero⁺}
@@ -29,12 +30,10 @@ use Rattle.plate.proofs.Describes.{describes}
 use Rattle.plate.specs.Worst.{worst_of}
 use Rattle.rounds.specs.Solve.{Outcome, converged, failed}
 use Rattle.sketch.proofs.Within.{within}
-use Rattle.sketch.specs.Check.{over_bound, out_of_bounds, refers_to_nothing, over_rows}
+use Rattle.sketch.specs.Check.{Checked, over_bound, out_of_bounds, refers_to_nothing, over_rows}
 use Rattle.sketch.specs.Parts.{equations_of}
 use Rattle.sketch.specs.declared.Active.{Active}
 use Rattle.sketch.specs.declared.Build.{Build}
-use Rattle.sketch.specs.declared.Checked.{Checked}
-use Rattle.sketch.specs.declared.Checked.TheVariants.{Passes}
 use Rattle.sketch.specs.declared.Point.{Point}
 use Rattle.sketch.specs.declared.State.{State}
 use Rattle.sketch.specs.declared.State.TheVariants.{Free, Kept, Placed}
@@ -144,17 +143,17 @@ module _ (b : Build) where
   unfolding fit_of
   points-sized d h = groups-sized b (grouping_of b) _ 0 (begin b) d h ∙ begin-sized b
 
-  output-is : (d : Doing) (v : Checked) (out : List Float) → v ≡ Passes → fit_of b ≡ fits d → output_after b out v ≡ handed_out b d.points out
+  output-is : (d : Doing) (v : Checked) (out : List Float) → v ≡ Ok tt → fit_of b ≡ fits d → output_after b out v ≡ handed_out b d.points out
   output-is d v out e h = rw (e, h)
 
-  worst-is : (d : Doing) (v : Checked) → v ≡ Passes → fit_of b ≡ fits d → (answer_after b v).worst ≡ worst_of b (levelled b d.points)
+  worst-is : (d : Doing) (v : Checked) → v ≡ Ok tt → fit_of b ≡ fits d → (answer_after b v).worst ≡ worst_of b (levelled b d.points)
   worst-is d v e h = rw (e, h)
 
   -- a job that ends in 0 has fitted, from 40 points
   record Went (out p q r : List Float) : Type 0 where
     doing : Doing
     fit : fit_of b ≡ fits doing
-    passes : verdict b out p q r ≡ Passes
+    passes : verdict b out p q r ≡ Ok tt
     few : b.point_count ≤ 40
 
   went : (out p q r : List Float) → number_in b (length out) (length p) (length q) (length r) ≡ 0 → Went out p q r

@@ -7,12 +7,11 @@ use borrow.Author.Tests.{ltb-false}
 use lib.Dec.{ltb}
 use mir.Syntax.{w64}
 use mir.Val.{Fits}
+use Rattle.std.specs.Prelude.{Ok, Err}
 use Rattle.loops.proofs.Picks.{none_of_four}
 use Rattle.sketch.proofs.Within.{within}
-use Rattle.sketch.specs.Check.{over_bound, check_of}
+use Rattle.sketch.specs.Check.{Checked, over_bound, check_of}
 use Rattle.sketch.specs.declared.Build.{Build}
-use Rattle.sketch.specs.declared.Checked.{Checked}
-use Rattle.sketch.specs.declared.Checked.TheVariants.{Passes, Ends}
 use Rattle.job.specs.Promise.{no_room, in_order, verdict_of}
 
 -- two numbers for each point, and one for each measure
@@ -22,12 +21,12 @@ twice-fits b h = let n = (within b h).0 in record { fits = omega arith }
 pub output-fits : (b : Build) → over_bound b ≡ false → Fits w64 (2 * b.point_count + b.measure_count)
 output-fits b h = let n = within b h in record { fits = omega (arith, n.0, n.3) }
 
-passed : (o n : Bool) (c : Checked) → in_order o n c ≡ Passes → (o ≡ false) × (n ≡ false) × (c ≡ Passes)
+passed : (o n : Bool) (c : Checked) → in_order o n c ≡ Ok tt → (o ≡ false) × (n ≡ false) × (c ≡ Ok tt)
 passed true n c h = (cc, cc, cc)
-passed false true (Ends e) h = (cc, cc, cc)
-passed false true Passes h = (cc, cc, cc)
-passed false false (Ends e) h = (cc, cc, cc)
-passed false false Passes h = (refl, refl, refl)
+passed false true (Err e) h = (cc, cc, cc)
+passed false true (Ok v) h = (cc, cc, cc)
+passed false false (Err e) h = (cc, cc, cc)
+passed false false (Ok v) h = (refl, refl, refl)
 
 -- what a build that passes has, with what is lent
 pub record Room (b : Build) (out p q r : ℕ) : Type 0 where
@@ -38,8 +37,8 @@ pub record Room (b : Build) (out p q r : ℕ) : Type 0 where
   pub second : 6400 ≤ q
   pub third : 6400 ≤ r
 
-module _ (b : Build) (out p q r : ℕ) (h : verdict_of b out p q r ≡ Passes) where
-  steps : (over_bound b ≡ false) × (no_room b out p q r ≡ false) × (check_of b ≡ Passes)
+module _ (b : Build) (out p q r : ℕ) (h : verdict_of b out p q r ≡ Ok tt) where
+  steps : (over_bound b ≡ false) × (no_room b out p q r ≡ false) × (check_of b ≡ Ok tt)
   unfolding verdict_of
   steps = passed (over_bound b) (no_room b out p q r) (check_of b) h
 

@@ -13,6 +13,7 @@ use lib.Dec.{eqb}
 use lib.Ieee.{Float}
 use lib.ListN.{length, get_or, take, drop, drop_of_length-le, length-take, get_or-eq_default}
 use lib.Seq.{drop-cons, get_or-take}
+use Rattle.std.specs.Prelude.{Ok}
 use Rattle.fit.proofs.Sets.{equations-back}
 use Rattle.fit.specs.Fits.{freedom_of}
 use Rattle.fit.specs.Promise.{frame_over_rows}
@@ -33,7 +34,6 @@ use Rattle.sketch.specs.Rows.{rows_of, rows_of_build}
 use Rattle.sketch.specs.Rows as rows
 use Rattle.sketch.specs.declared.Active.{Active}
 use Rattle.sketch.specs.declared.Build.{Build}
-use Rattle.sketch.specs.declared.Checked.TheVariants.{Passes}
 use Rattle.sketch.specs.declared.Line.{Line}
 
 -- rows are only added
@@ -103,7 +103,7 @@ counted es n (k ∷ l) s h =
     let e : equation_at (take n es) k ≡ equation_at es k = ap (λ (a : Active). a.equation) (get_or-take n es k blank_active (h k (Memᴰ.head refl))) in
     rw e (counted es n l (s + rows_of (equation_at es k)) (λ j m. h j (Memᴰ.tail m)))
 
-module _ (b : Build) (passes : check_of b ≡ Passes) (g : ℕ) (among : g < (grouping_of b).count) where
+module _ (b : Build) (passes : check_of b ≡ Ok tt) (g : ℕ) (among : g < (grouping_of b).count) where
   own : (k : ℕ) → Memᴰ k (equations_in (grouping_of b) g) → k < b.equation_count
   own k m =
       let touches = (groups-are-chains b passes).equation-only k g among m in

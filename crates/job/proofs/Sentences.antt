@@ -7,6 +7,7 @@ use mathlib.Core.Path.{◌≡◌, refl, ap, ◌∙◌}
 use native.Mathlib.Omega.{arith}
 use lib.Ieee.{Float}
 use lib.ListN.{length}
+use Rattle.std.specs.Prelude.{Ok}
 use Rattle.answer.specs.Endings.{failed_of}
 use Rattle.answer.specs.declared.GroupFit.{GroupFit}
 use Rattle.fit.proofs.MeansFitted.{fitted-holds}
@@ -20,10 +21,8 @@ use Rattle.groups.specs.Listed.{grouping_of}
 use Rattle.rounds.specs.Promise.{zeroed}
 use Rattle.rounds.specs.Solve.{Outcome, converged, failed}
 use Rattle.sketch.proofs.Given as goal
-use Rattle.sketch.specs.Check.{check_of, ordered, over_bound, out_of_bounds, refers_to_nothing, over_rows}
+use Rattle.sketch.specs.Check.{Checked, check_of, ordered, over_bound, out_of_bounds, refers_to_nothing, over_rows}
 use Rattle.sketch.specs.declared.Build.{Build}
-use Rattle.sketch.specs.declared.Checked.{Checked}
-use Rattle.sketch.specs.declared.Checked.TheVariants.{Passes}
 use Rattle.job.specs.Given.{Sound, LowestFailing}
 use Rattle.job.specs.Groups.{Result, fits, fails, fit_of}
 use Rattle.job.specs.Promise.{no_room, in_order, verdict_of, answer_after, area_after, unfit, first_row}
@@ -42,7 +41,7 @@ module _ (b : Build) where
   failing : (j : ℕ) (u : GroupFit) → LowestFailing b j u → Failing b j
   failing j u l = record { group = l.group; unfitted = rw l.outcome; earlier = l.earlier }
 
-  answer-is : (v : Checked) (j : ℕ) (u : GroupFit) → v ≡ Passes → fit_of b ≡ fails j u → answer_after b v ≡ failed_of u (suspects_at b (grouping_of b) j)
+  answer-is : (v : Checked) (j : ℕ) (u : GroupFit) → v ≡ Ok tt → fit_of b ≡ fails j u → answer_after b v ≡ failed_of u (suspects_at b (grouping_of b) j)
   answer-is v j u e f = rw (e, f)
 
   -- by the rows in 01's order
@@ -78,10 +77,10 @@ module _ (b : Build) where
       (left area (over_bound b) n (out_of_bounds b) (refers_to_nothing b) (over_rows b) f, kept area (over_bound b) n (out_of_bounds b) (refers_to_nothing b) (over_rows b) f)
 
   module _ (out p q r : ℕ) where
-    passes : Sound b out p q r → check_of b ≡ Passes
+    passes : Sound b out p q r → check_of b ≡ Ok tt
     passes s = (goal.given-exactly b).passes.1 (s.counts, s.numbers, s.items, s.rows)
 
-    pub verdict-passes : Sound b out p q r → verdict_of b out p q r ≡ Passes
+    pub verdict-passes : Sound b out p q r → verdict_of b out p q r ≡ Ok tt
     unfolding verdict_of
     verdict-passes s = rw (s.counts, s.room) (passes s)
 

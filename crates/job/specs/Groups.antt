@@ -1,7 +1,8 @@
 -- lib.rs, `solve_group` and the loop of `solve` over the groups, over the whole build: each group is fitted by itself, in rising
 -- order, until one does not converge. The fit, freedom, suspects and lowest point of a group are the room `fit`'s, and the
 -- residuals at the points that are handed out the room `plate`'s.
-use Rattle.std.specs.Prelude.{ℕ, zero, suc, ◌+◌, ◌*◌, min, Bool, cond, not, ◌&&◌, List, eqb, Float, length, get_or, set, replicate}
+use Rattle.std.specs.Prelude.{ℕ, zero, suc, ◌+◌, ◌*◌, min, Bool, cond, not, ◌&&◌, List, eqb, Float, length, get_or, set, replicate, Ok, Err}
+use Rattle.std.specs.Prelude as std
 use Rattle.answer.specs.Endings.{blank_group, failed_of, fitted_of}
 use Rattle.answer.specs.declared.Answer.{Answer}
 use Rattle.answer.specs.declared.GroupFit.{GroupFit}
@@ -9,23 +10,25 @@ use Rattle.fit.specs.Promise.{padded}
 use Rattle.fit.specs.Frames.{start_in}
 use Rattle.fit.specs.Groups.{lowest_of, freedom_in, frame_in, outcome_at, suspects_at}
 use Rattle.fit.specs.declared.Frame.{Frame}
-use Rattle.fit.specs.declared.Degrees.{Degrees}
+use Rattle.fit.specs.declared.NotFitted.{NotFitted}
 use Rattle.groups.specs.Listed.{grouping_of}
 use Rattle.groups.specs.declared.Grouping.{Grouping}
 use Rattle.loops.specs.Turns.{up_to}
 use Rattle.members.specs.Lists.{numbers_of}
-use Rattle.members.specs.Movable.{fixed_of, nowhere}
+use Rattle.members.specs.Movable.{nowhere}
 use Rattle.members.specs.Scale.{unscale_of}
 use Rattle.plate.specs.Worst.{worst_of}
-use Rattle.rounds.specs.Reasons.{code_of, named_column, code_in, named_column_in}
+use Rattle.rounds.specs.Reasons.{code_of, named_column}
 use Rattle.rounds.specs.Solve.{Outcome, converged, failed}
 use Rattle.rounds.specs.declared.Reason.{Reason}
-use Rattle.rounds.specs.declared.Solved.{Solved}
+use Rattle.rounds.specs.declared.Unfitted.{Unfitted}
+use Rattle.rounds.specs.declared.Unfitted.TheVariants.{Failed, Refused}
 use Rattle.sketch.specs.declared.Build.{Build}
 use Rattle.sketch.specs.declared.Point.{Point}
 use Rattle.job.specs.Points.{drawn, levelled, handed_out}
 use Rattle.job.specs.declared.Doing.{Doing}
-use Rattle.job.specs.declared.Went.{Went}
+use Rattle.job.specs.declared.Failing.{Failing}
+use Rattle.sketch.specs.Fixed.{is_fixed}
 
 -- what the groups come to: all are fitted, or one does not converge, of which this is answered
 pub data Result : Type 0 where
@@ -37,14 +40,9 @@ followed (fits d) k = k d
 followed (fails g u) k = fails g u
 
 -- as the code holds it
-abbrev pub result_of : Went → Result
-result_of w = cond w.failed (fails w.group w.failure) (fits w.doing)
-
--- what a call for the freedom came to, as a number
-abbrev pub count_of : Degrees → ℕ
-count_of (Degrees.Of n) = n
-count_of Degrees.TooShort = 0
-count_of Degrees.TooManyRows = 0
+abbrev pub result_of : std.Result Doing Failing → Result
+result_of (Ok d) = fits d
+result_of (Err e) = fails e.group e.failure
 
 -- `Ok(GroupResult { points: eq.unscale(g, &x), dof, free })` and what `solve` does with it, of group g, which is set out as f
 unfoldable pub taken_of : Build → Frame → ℕ → List Float → ℕ → ℕ → Doing → Doing
@@ -59,8 +57,12 @@ abbrev pub failing_of : Frame → Reason → ℕ → ℕ → GroupFit
 failing_of f w i t = record { lowest = lowest_of f; freedom = 0; iterations = i; tries = t; code = code_of w; column = named_column w }
 
 -- as the code has it from how the fit ended
-abbrev pub failing_by : Frame → Solved → GroupFit
-failing_by f s = record { lowest = lowest_of f; freedom = 0; iterations = s.iterations; tries = s.tries; code = code_in s.ending; column = named_column_in s.ending }
+abbrev pub failing_by : Frame → NotFitted → GroupFit
+failing_by f u = by u.why
+  where
+    by : Unfitted → GroupFit
+    by (Failed w) = failing_of f w u.iterations u.tries
+    by (Refused e) = record { lowest = lowest_of f; freedom = 0; iterations = u.iterations; tries = u.tries; code = 0; column = 0 }
 
 -- `match fitted`; the coordinates of a fit stand at the head of 80 places
 abbrev pub step_by : Build → Frame → ℕ → Doing → Outcome → Result
@@ -69,7 +71,7 @@ step_by b f g d (failed w i t) = fails g (failing_of f w i t)
 
 -- free, and in no group
 abbrev pub loose_by : Point → ℕ → Bool
-loose_by q group = eqb group 40 && not (fixed_of q)
+loose_by q group = eqb group 40 && not (is_fixed q.state)
 
 abbrev pub loose_in : List Point → List ℕ → ℕ → Bool
 loose_in points of p = loose_by (get_or points p nowhere) (get_or of p 0)

@@ -1,15 +1,13 @@
 -- What a job answers and leaves in each lent place, for every input (document 01, "The numbers a job ends in"): numbers 3, 9, 4, 5
 -- and 6 in this order, which return only themselves and change nothing lent; then 7 or 0.
-use Rattle.std.specs.Prelude.{ℕ, ◌+◌, ◌*◌, Bool, true, false, ◌||◌, List, ◌≡◌, ltb, Float, length}
+use Rattle.std.specs.Prelude.{ℕ, ◌+◌, ◌*◌, Bool, true, false, ◌||◌, List, ◌≡◌, ltb, Float, length, Ok, Err}
 use Rattle.answer.specs.Endings.{refused_of}
 use Rattle.answer.specs.declared.Answer.{Answer}
 use Rattle.floats.specs.Only.{only-answer}
 use Rattle.groups.specs.Listed.{grouping_of}
 use Rattle.rounds.specs.Promise.{zeroed}
-use Rattle.sketch.specs.Check.{over_bound, out_of_bounds, refers_to_nothing, over_rows, check_of, number_of}
+use Rattle.sketch.specs.Check.{Checked, over_bound, out_of_bounds, refers_to_nothing, over_rows, check_of, number_of}
 use Rattle.sketch.specs.declared.Build.{Build}
-use Rattle.sketch.specs.declared.Checked.{Checked}
-use Rattle.sketch.specs.declared.Checked.TheVariants.{Passes, Ends}
 use Rattle.sketch.specs.declared.Ending.TheVariants.{TooMany, TooShort}
 use Rattle.job.specs.Groups.{Result, fits, fails, fit_of, answer_by, output_by}
 
@@ -19,17 +17,17 @@ abbrev pub no_room : Build → ℕ → ℕ → ℕ → ℕ → Bool
 no_room b out p q r = ltb out (2 * b.point_count + b.measure_count) || ltb p 6400 || ltb q 6400 || ltb r 6400
 
 abbrev pub room_of : Bool → Checked
-room_of true = Ends TooShort
-room_of false = Passes
+room_of true = Err TooShort
+room_of false = Ok tt
 
 -- of two verdicts the first that ends the job
 abbrev pub first_refusal_of : Checked → Checked → Checked
-first_refusal_of (Ends e) c = Ends e
-first_refusal_of Passes c = c
+first_refusal_of (Err e) c = Err e
+first_refusal_of (Ok v) c = c
 
 -- 3 before 9 before the rest of the check
 abbrev pub in_order : Bool → Bool → Checked → Checked
-in_order true n c = Ends TooMany
+in_order true n c = Err TooMany
 in_order false n c = first_refusal_of (room_of n) c
 
 unfoldable pub verdict_of : Build → ℕ → ℕ → ℕ → ℕ → Checked
@@ -55,16 +53,16 @@ abbrev pub number_in : Build → ℕ → ℕ → ℕ → ℕ → ℕ
 number_in b out p q r = first_row (over_bound b) (no_room b out p q r) (out_of_bounds b) (refers_to_nothing b) (over_rows b) (unfit (fit_of b))
 
 abbrev pub answer_after : Build → Checked → Answer
-answer_after b (Ends e) = refused_of e
-answer_after b Passes = answer_by b (grouping_of b) (fit_of b)
+answer_after b (Err e) = refused_of e
+answer_after b (Ok v) = answer_by b (grouping_of b) (fit_of b)
 
 abbrev pub output_after : Build → List Float → Checked → List Float
-output_after b out (Ends e) = out
-output_after b out Passes = output_by b (grouping_of b) (fit_of b) out
+output_after b out (Err e) = out
+output_after b out (Ok v) = output_by b (grouping_of b) (fit_of b) out
 
 abbrev pub area_after : List Float → Checked → List Float
-area_after p (Ends e) = p
-area_after p Passes = zeroed 6400 p
+area_after p (Err e) = p
+area_after p (Ok v) = zeroed 6400 p
 
 module _ (b : Build) (out p q r : List Float) where
   abbrev pub verdict : Checked

@@ -14,6 +14,9 @@ mod sweeps;
 use answer::GroupFit;
 pub use ends::solve;
 
+// A work area: the fits take this much of each.
+pub(crate) type Area = [f64; 6400];
+
 // The groups fitted so far: the points, x, y, x, y, .., of which those of later groups stand where they were drawn, the sum of the
 // freedoms, and a line for each group.
 #[derive(Clone, Copy)]
@@ -23,11 +26,9 @@ pub(crate) struct Doing {
     pub(crate) groups: [GroupFit; 40],
 }
 
-// What fitting a group, or the groups, came to: `doing`, or where it failed the group and what is answered of it.
+// A group that does not converge, and what is answered of it.
 #[derive(Clone, Copy)]
-pub(crate) struct Went {
-    pub(crate) failed: bool,
+pub(crate) struct Failing {
     pub(crate) group: usize,
     pub(crate) failure: GroupFit,
-    pub(crate) doing: Doing,
 }

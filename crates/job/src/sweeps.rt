@@ -1,50 +1,41 @@
 // The groups one after another.
-ghost use Rattle.std.specs.Prelude.{◌≡◌, ◌≤◌, length};
+ghost use Rattle.std.specs.Prelude.{◌≡◌, ◌≤◌, IfOk};
 ghost use Rattle.job.specs.Groups.{begin, groups_from, result_of};
 
 use crate::fitting::one_group;
 use crate::points::starts;
-use crate::{Doing, Went};
-use answer::blank_group;
+use crate::{Area, Doing, Failing};
+use answer::GroupFit;
 use groups::Grouping;
 use sketch::Build;
 
-fn begun(b: Build) -> Doing
-    ensures { result ≡ begin b }
+#[tactic(auto, unfolding(crate::specs::Groups::begin))]
+fn begun(b: &Build) -> Doing
+    ensures { result ≡ begin b.now }
 {
-    let points = b.points;
-    let blank = blank_group();
     Doing {
-        points: starts(points),
+        points: starts(&b.points),
         freedom: 0,
-        groups: [blank; 40],
+        groups: [GroupFit::default(); 40],
     }
 }
 
 // The first n groups, until one does not converge.
 pub(crate) fn all_groups(
-    b: Build,
-    gr: Grouping,
+    b: &Build,
+    gr: &Grouping,
     n: usize,
-    p: &mut [f64],
-    q: &mut [f64],
-    r: &mut [f64],
-) -> Went
-    requires { (n ≤ 40) × (6400 ≤ length p.old) × (6400 ≤ length q.old) × (6400 ≤ length r.old) }
-    ensures { (result_of result ≡ groups_from b gr n 0 (begin b)) × (result.doing.freedom ≤ 3280) }
+    p: &mut Area,
+    q: &mut Area,
+    r: &mut Area,
+) -> Result<Doing, Failing>
+    requires { n ≤ 40 }
+    ensures groups { result_of result ≡ groups_from b.now gr.now n 0 (begin b.now) }
+    ensures freedom { IfOk result (λ d. d.freedom ≤ 3200) }
 {
     let mut d = begun(b);
     for g in 0..n {
-        let w = one_group(b, gr, g, d, p, q, r);
-        if w.failed {
-            return w;
-        }
-        d = w.doing;
+        d = one_group(b, gr, g, d, p, q, r)?;
     }
-    Went {
-        failed: false,
-        group: n,
-        failure: blank_group(),
-        doing: d,
-    }
+    Ok(d)
 }

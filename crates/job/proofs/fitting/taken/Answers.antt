@@ -1,24 +1,23 @@
 -- Assumes nothing.
-use mathlib.Core.Path.{sym}
-use native.Mathlib.Omega.{arith}
-use Rattle.job.proofs.Stepping.{taken_is}
+use Rattle.std.proofs.Common.{◌≡◌, ◌≤◌, arith, rules, false, refl}
+use Rattle.fit.specs.Promise.{short}
+use Rattle.job.specs.Groups.{taken_of}
+use Rattle.job.proofs.Freeing.{freedom-is, freedom-few}
 use Rattle.job.proofs.fitting.taken.Goals as goal
 
-pub slice_bounds-freedom_at-end : goal.slice_bounds-freedom_at-end
-slice_bounds-freedom_at-end c = sym c.well_formed.1.1.1.0.1.1.1.0.1.0.1
+pub overflow_add-d : goal.overflow_add-d
+overflow_add-d c =
+    let h : c.unwrap_or-freedom.result ≤ 80 = freedom-few c.freedom.result _ c.freedom.ensures.few c.unwrap_or-freedom.ensures in
+    search rules
 
-pub slice_bounds-unscale-end : goal.slice_bounds-unscale-end
-slice_bounds-unscale-end c = sym c.well_formed.1.1.1.0.1.1.1.0.1.0.1
-
-pub slice_bounds-unscale-end-2 : goal.slice_bounds-unscale-end-2
-slice_bounds-unscale-end-2 c = sym c.well_formed.1.1.1.1.0.1.1.0.1.0.1
-
-pub returns : goal.returns
-returns c =
+pub returns-clause-taken : goal.returns-clause-taken
+unfolding taken_of
+returns-clause-taken c =
     let a = c.args in
-    let freed = c.freedom_at-freedom in
-    let lowest = c.lowest in (
-      taken_is a.b a.f a.g a.t.x a.t.solved.iterations a.t.solved.tries a.d _ freed.result lowest.result freed.ensures.0
-          c.unscale.ensures lowest.ensures,
-      omega (arith, freed.ensures.1),
-    )
+    let n = freedom-is a.b.now a.f.now a.t.now.x a.p.now a.q.now a.r.now _ _ _ c.freedom.result _ (search rules) c.freedom.ensures.frees c.unwrap_or-freedom.ensures in
+    rw (n, c.unscale.ensures)
+
+pub returns-clause-freedom : goal.returns-clause-freedom
+returns-clause-freedom c =
+    let h : c.unwrap_or-freedom.result ≤ 80 = freedom-few c.freedom.result _ c.freedom.ensures.few c.unwrap_or-freedom.ensures in
+    omega arith

@@ -1,14 +1,7 @@
-use Prim.Native.Nat.{◌*◌, ◌-◌, ◌≤◌}
-use mathlib.Core.Path.{◌≡◌}
-use lib.ListN.{length}
+use Rattle.std.proofs.Common.{◌≡◌, ◌*◌, ◌-◌, ◌≤◌}
 use Rattle.job.specs.Groups.{begin, groups_from}
 use Rattle.job.proofs.sweeps.all_groups.Given as goal
 
 abbrev pub invariant-loop-g : goal.invariant-loop-g
 invariant-loop-g l =
-    (l.g ≤ l.n)
-    × (length l.p ≡ length l.initial.p)
-    × (length l.q ≡ length l.initial.q)
-    × (length l.r ≡ length l.initial.r)
-    × (l.d.freedom ≤ 80 * l.g)
-    × (groups_from l.b l.gr (l.n - l.g) l.g l.d ≡ groups_from l.b l.gr l.n 0 (begin l.b))
+    (l.d.freedom ≤ 80 * l.g) × (groups_from l.b l.gr (l.n - l.g) l.g l.d ≡ groups_from l.b l.gr l.n 0 (begin l.b))
