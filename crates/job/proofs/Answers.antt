@@ -7,7 +7,6 @@ use lib.ListN.{length}
 use Rattle.std.specs.Prelude.{Ok, Err}
 use Rattle.answer.specs.Endings.{refused_of}
 use Rattle.answer.specs.declared.Answer.{Answer}
-use Rattle.answer.specs.declared.GroupFit.{GroupFit}
 use Rattle.groups.specs.Listed.{grouping_of}
 use Rattle.groups.specs.declared.Grouping.{Grouping}
 use Rattle.rounds.specs.Promise.{zeroed}

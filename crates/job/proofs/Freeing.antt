@@ -3,7 +3,6 @@ use Prim.Native.Nat.{ℕ, ◌+◌, ◌≤◌, ◌<◌}
 use mathlib.Core.Bool.{Bool, true, false, cond, not, ◌&&◌}
 use mathlib.Core.List.{List}
 use mathlib.Core.Path.{◌≡◌, refl, sym, ◌∙◌}
-use native.Mathlib.Nat.{sub-le}
 use native.Mathlib.Omega.{arith}
 use borrow.Author.Tests.{le-ltb}
 use lib.Ieee.{Float}
@@ -20,7 +19,7 @@ use Rattle.fit.specs.declared.Frame.{Frame}
 use Rattle.loops.proofs.Parts.{any-default}
 use Rattle.loops.specs.Turns.{up_to}
 use Rattle.loops.proofs.Turning.{up_to-next}
-use Rattle.members.specs.Movable.{nowhere, indices_of}
+use Rattle.members.specs.Movable.{nowhere}
 use Rattle.sketch.specs.Fixed.{is_fixed}
 use Rattle.sketch.specs.declared.Build.{Build}
 use Rattle.sketch.specs.declared.Point.{Point}

@@ -18,11 +18,9 @@ use Rattle.members.specs.Lists.{numbers_of}
 use Rattle.members.specs.Movable.{nowhere}
 use Rattle.members.specs.Scale.{unscale_of}
 use Rattle.plate.specs.Worst.{worst_of}
-use Rattle.rounds.specs.Reasons.{code_of, named_column}
+use Rattle.rounds.specs.Reasons.{code_of, named_column, code_in, named_column_in}
 use Rattle.rounds.specs.Solve.{Outcome, converged, failed}
 use Rattle.rounds.specs.declared.Reason.{Reason}
-use Rattle.rounds.specs.declared.Unfitted.{Unfitted}
-use Rattle.rounds.specs.declared.Unfitted.TheVariants.{Failed, Refused}
 use Rattle.sketch.specs.declared.Build.{Build}
 use Rattle.sketch.specs.declared.Point.{Point}
 use Rattle.job.specs.Points.{drawn, levelled, handed_out}
@@ -58,11 +56,7 @@ failing_of f w i t = record { lowest = lowest_of f; freedom = 0; iterations = i;
 
 -- as the code has it from how the fit ended
 abbrev pub failing_by : Frame → NotFitted → GroupFit
-failing_by f u = by u.why
-  where
-    by : Unfitted → GroupFit
-    by (Failed w) = failing_of f w u.iterations u.tries
-    by (Refused e) = record { lowest = lowest_of f; freedom = 0; iterations = u.iterations; tries = u.tries; code = 0; column = 0 }
+failing_by f u = record { lowest = lowest_of f; freedom = 0; iterations = u.iterations; tries = u.tries; code = code_in (Err u.why); column = named_column_in (Err u.why) }
 
 -- `match fitted`; the coordinates of a fit stand at the head of 80 places
 abbrev pub step_by : Build → Frame → ℕ → Doing → Outcome → Result

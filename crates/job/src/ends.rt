@@ -22,19 +22,12 @@ fn fitted(b: &Build, gr: &Grouping, d: &Doing, out: &mut [f64]) -> Answer
     let freedom = d.freedom + 2 * loose(b, gr);
     // The plate is cut from the points that are handed out, so its worst is taken there.
     let n = 2 * b.point_count;
-    let worst = plate::worst(*b, &out[..n]);
+    let worst = plate::worst(b, &out[..n]);
     Answer::fitted(gr.count.min(40), d.groups, freedom, worst)
 }
 
 // A group does not converge, and this is answered of it.
-fn failed(
-    b: &Build,
-    gr: &Grouping,
-    e: Failing,
-    p: &mut Area,
-    q: &mut Area,
-    r: &mut Area,
-) -> Answer
+fn failed(b: &Build, gr: &Grouping, e: Failing, p: &mut Area, q: &mut Area, r: &mut Area) -> Answer
     ensures { result ≡ answer_by b.now gr.now (fails e.group e.failure) }
 {
     let f = fit::set_out(&b.points, gr, e.group);
@@ -45,13 +38,7 @@ fn failed(
 
 // The job on a build: the points go to the head of out, the measures after them. The fits take the first 6,400 places of each area,
 // which are +0.0 afterwards.
-pub fn solve(
-    b: &Build,
-    out: &mut [f64],
-    p: &mut [f64],
-    q: &mut [f64],
-    r: &mut [f64],
-) -> Answer
+pub fn solve(b: &Build, out: &mut [f64], p: &mut [f64], q: &mut [f64], r: &mut [f64]) -> Answer
     ensures { Does b.now out.old p.old q.old r.old out.new p.new q.new r.new result }
 {
     if let Err(e) = verdict(b, out.len(), p.len(), q.len(), r.len()) {

@@ -6,7 +6,6 @@ use crate::{Area, Doing, Failing};
 use answer::GroupFit;
 use fit::{Fitted, Frame, NotFitted};
 use groups::Grouping;
-use rounds::Unfitted;
 use sketch::Build;
 
 // The fit t of group g taken over.
@@ -27,7 +26,7 @@ fn taken(
     // A build that passes the check has no group with too many rows.
     let freedom = fit::freedom(b, f, &t.x, p, q, r).unwrap_or(0);
     let mut d = d;
-    members::unscale(b.points, b.centre, b.size, f.points, &t.x, &mut d.points);
+    members::unscale(&b.points, b.centre, b.size, &f.points, &t.x, &mut d.points);
     d.freedom += freedom;
     d.groups[g] = GroupFit {
         lowest: f.points.0.items[0],
@@ -44,17 +43,13 @@ fn taken(
 fn failing(f: &Frame, u: NotFitted) -> GroupFit
     ensures { result ≡ failing_by f.now u }
 {
-    let (code, column) = match u.why {
-        Unfitted::Failed(why) => (rounds::code(why), rounds::named_column(why)),
-        Unfitted::Refused(_) => (0, 0),
-    };
     GroupFit {
         lowest: f.points.0.items[0],
         freedom: 0,
         iterations: u.iterations,
         tries: u.tries,
-        code,
-        column,
+        code: rounds::code(Err(u.why)),
+        column: rounds::named_column(Err(u.why)),
     }
 }
 

@@ -15,7 +15,7 @@ pub(crate) fn hand_out(b: &Build, fitted: &[f64; 80], out: &mut [f64])
     let _measures = &b.measures[..b.measure_count];
     let mut points = *fitted;
     place_all(&b.points, &mut points);
-    level::level(*b, &mut points[..n]);
+    level::level(b, &mut points[..n]);
     out[..n].copy_from_slice(&points[..n]);
-    measures::measures(*b, &points[..n], &mut out[n..]);
+    measures::measures(b, &points[..n], &mut out[n..]);
 }

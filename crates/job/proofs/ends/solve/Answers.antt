@@ -47,9 +47,9 @@ returns c =
     let w = c.all_groups in
     let ended : (m.a ≡ answer_by b (grouping_of b) (fit_of b)) × (m.out ≡ output_by b (grouping_of b) (fit_of b) a.out.now) =
     elim m.branch [
-      in-Ok v ↦ ended-fitted b gr.result c.min.result w.result gr.ensures c.min.ensures w.ensures.groups m.a a.out.now m.out v.in-Ok.d v.in-Ok.is
+      | in-Ok v ↦ ended-fitted b gr.result c.min.result w.result gr.ensures c.min.ensures w.ensures.groups m.a a.out.now m.out v.in-Ok.d v.in-Ok.is
           (v.a-is ∙ v.fitted-a.ensures.answer) (v.out-is ∙ v.fitted-a.ensures.output)
-    | in-Err-all_groups v ↦
+      | in-Err-all_groups v ↦
           let t = ended-failing b gr.result c.min.result w.result gr.ensures c.min.ensures w.ensures.groups m.a a.out.now v.in-Err-all_groups.e v.in-Err-all_groups.is (v.a-is ∙ v.failed-a.ensures) in
           (t.0, v.out-is ∙ t.1)
     ] in

@@ -1,6 +1,5 @@
 -- Assumes nothing.
-use Rattle.std.proofs.Common.{◌≡◌, ◌≤◌, arith, rules, false, refl}
-use Rattle.fit.specs.Promise.{short}
+use Rattle.std.proofs.Common.{◌≤◌, arith, rules}
 use Rattle.job.specs.Groups.{taken_of}
 use Rattle.job.proofs.Freeing.{freedom-is, freedom-few}
 use Rattle.job.proofs.fitting.taken.Goals as goal

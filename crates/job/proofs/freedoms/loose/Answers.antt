@@ -1,5 +1,5 @@
 -- Assumes nothing.
-use Rattle.std.proofs.Common.{◌≡◌, refl, rules, arith, ap, length, length-take}
+use Rattle.std.proofs.Common.{refl, rules, arith, ap, length, length-take}
 use Rattle.job.specs.Groups.{loose_of}
 use Rattle.job.proofs.Freeing.{loose-turn, loose-done}
 use Rattle.job.proofs.freedoms.loose.Goals as goal
@@ -15,11 +15,11 @@ loop-p-preserved c =
     let of = c.args.gr.now.of_point in
     let l = c.loop-p in
     elim c.if-get_or-is_fixed.branch [
-      then-get_or-is_fixed w ↦ (
+      | then-get_or-is_fixed w ↦ (
         omega (arith, w.k-is, l.invariant.0),
         loose-turn points of c.args.b.now.point_count _ _ l.p l.k _ _ _ _ _ c.points-q-items.ensures c.loop-p-test.true c.get_or.ensures c.is_fixed.ensures w.if-get_or-is_fixed.true w.k-is l.invariant.1,
       )
-    | else-get_or-is_fixed w ↦ (
+      | else-get_or-is_fixed w ↦ (
         omega (arith, w.k-is, l.invariant.0),
         loose-turn points of c.args.b.now.point_count _ _ l.p l.k _ _ _ _ _ c.points-q-items.ensures c.loop-p-test.true c.get_or.ensures c.is_fixed.ensures w.if-get_or-is_fixed.false w.k-is l.invariant.1,
       )

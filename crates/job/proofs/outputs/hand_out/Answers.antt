@@ -1,5 +1,5 @@
 -- Assumes nothing.
-use Rattle.std.proofs.Common.{◌≡◌, ◌*◌, ◌≤◌, length, refl, rules, sym, ◌∙◌}
+use Rattle.std.proofs.Common.{◌*◌, ◌≤◌, length, refl, rules, sym, ◌∙◌}
 use Rattle.loops.proofs.Parts.{front}
 use Rattle.job.proofs.Handing.{handed-out}
 use Rattle.job.proofs.outputs.hand_out.Goals as goal

@@ -1,5 +1,5 @@
 -- Assumes nothing.
-use Rattle.std.proofs.Common.{◌≡◌, ◌≤◌, arith, rules}
+use Rattle.std.proofs.Common.{arith, rules}
 use Rattle.std.proofs.lemmas.Result.{err_from_is_err_and}
 use Rattle.job.proofs.Stepping.{begin-free, groups-begin, groups-next, groups-stop, groups-done}
 use Rattle.job.proofs.sweeps.all_groups.Goals as goal
