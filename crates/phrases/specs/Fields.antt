@@ -39,13 +39,17 @@ value_at s at = do
   n ← eat_of s at 44
   float_at s n
 
+-- one of two words, and what it stands for
+abbrev pub either_at : {A : Type 0} → List ℕ → ℕ → List ℕ → A → List ℕ → A → Read A
+either_at s at v a w b = if_some (word_of s at v) (λ n. Some (a, n)) (word_of s at w >>= λ n. Some (b, n))
+
 -- x is 0 and y is 1
 unfoldable pub axis_at : List ℕ → ℕ → Read ℕ
-axis_at s at = if_some (word_of s at (ascii ",x")) (λ n. Some (0, n)) (word_of s at (ascii ",y") >>= λ n. Some (1, n))
+axis_at s at = either_at s at (ascii ",x") 0 (ascii ",y") 1
 
 -- + is 1.0 and - is -1.0
 unfoldable pub side_at : List ℕ → ℕ → Read Float
-side_at s at = if_some (word_of s at (ascii ",+")) (λ n. Some (one, n)) (word_of s at (ascii ",-") >>= λ n. Some (neg one, n))
+side_at s at = either_at s at (ascii ",+") one (ascii ",-") (neg one)
 
 -- p and a point, or v and a float
 unfoldable pub rad_at : List ℕ → ℕ → Read Rad

@@ -1,6 +1,6 @@
 // The fields of equations and measures, each with the comma in front of it.
 ghost use Rattle.std.specs.Prelude.{◌≡◌};
-ghost use Rattle.phrases.specs.Fields.{with_place, number_at, point_at, line_at, value_at, axis_at, side_at, rad_at, contact_at, vec_at};
+ghost use Rattle.phrases.specs.Fields.{with_place, number_at, point_at, line_at, value_at, either_at, axis_at, side_at, rad_at, contact_at, vec_at};
 
 use plane::Vec2;
 use sketch::{Contact, LineNo, PointNo, Rad};
@@ -53,28 +53,30 @@ pub(crate) fn value(s: &[u8], at: &mut usize) -> Option<f64>
     Some(v)
 }
 
+// One of two words, and what it stands for.
+fn either<T: Copy>(s: &[u8], at: &mut usize, v: &[u8], a: T, w: &[u8], b: T) -> Option<T>
+    ensures { with_place result at.new ≡ either_at s.now at.old v.now a w.now b }
+{
+    if let Some(next) = word(s, *at, v) {
+        *at = next;
+        return Some(a);
+    }
+    *at = word(s, *at, w)?;
+    Some(b)
+}
+
 #[tactic(auto, unfolding(crate::specs::Fields::axis_at))]
 pub(crate) fn axis(s: &[u8], at: &mut usize) -> Option<usize>
     ensures { with_place result at.new ≡ axis_at s.now at.old }
 {
-    if let Some(next) = word(s, *at, b",x") {
-        *at = next;
-        return Some(0);
-    }
-    *at = word(s, *at, b",y")?;
-    Some(1)
+    either(s, at, b",x", 0, b",y", 1)
 }
 
 #[tactic(auto, unfolding(crate::specs::Fields::side_at))]
 pub(crate) fn side(s: &[u8], at: &mut usize) -> Option<f64>
     ensures { with_place result at.new ≡ side_at s.now at.old }
 {
-    if let Some(next) = word(s, *at, b",+") {
-        *at = next;
-        return Some(1.0);
-    }
-    *at = word(s, *at, b",-")?;
-    Some(-1.0)
+    either(s, at, b",+", 1.0, b",-", -1.0)
 }
 
 // A radius by a point, or a plain one.

@@ -1,5 +1,6 @@
 // How the bytes of a text are read: words, whole numbers and floats. Each reading takes the text and a place in it, the index of
-// the next byte, and gives what it read and the place after it, or nothing where the text is not as it should be.
+// the next byte, and gives what it read and the place after it, or nothing where the text is not as it should be. The two stay apart, since
+// only the place goes on.
 
 #![tactic(auto)]
 

@@ -11,7 +11,8 @@ pub(crate) trait Item: Copy {
         ensures { result ≡ reads s.now at };
 }
 
-// The next n items, into the first n places; gives the place in the text after them.
+// The next n items, into the first n places; gives the place in the text after them. n stands beside the places: lent as a part of
+// a build's array, they would have no name in the caller's proof afterwards.
 pub(crate) fn items<T: Item>(s: &[u8], at: usize, n: usize, places: &mut [T]) -> Option<usize>
     requires { n ≤ length places.old }
     ensures read { items_with (take n places.new) result ≡ items_at T.reads n s.now at }
