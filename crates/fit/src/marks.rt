@@ -20,10 +20,10 @@ pub fn suspects(
         return Err(Refusal::TooShort);
     }
     let mut marks = [false; 40];
-    for k in f.equations.0.numbers() {
-        let rest = members::without(&f.equations, *k);
+    for &k in f.equations.0.numbers() {
+        let rest = members::without(&f.equations, k);
         let fitted = fit(b, f, &rest, p, q, r).is_ok();
-        slices::put(&mut marks, *k, fitted);
+        slices::put(&mut marks, k, fitted);
     }
     Ok(marks)
 }

@@ -15,12 +15,12 @@ fn row_count(b: &Build, f: &Frame) -> usize
     ensures { result ≡ row_count b.now.equations (numbers_of f.now.equations.0) }
 {
     let mut rows = 0;
-    for k in f.equations.0.numbers() {
+    for &k in f.equations.0.numbers() {
         // Past the end there is `Held`, which has no row.
         let held = Active {
             equation: Equation::Held,
         };
-        rows += sketch::rows(slices::get_or(&b.equations, *k, held).equation);
+        rows += sketch::rows(slices::get_or(&b.equations, k, held).equation);
     }
     rows
 }

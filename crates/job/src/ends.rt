@@ -44,6 +44,7 @@ pub fn solve(b: &Build, out: &mut [f64], p: &mut [f64], q: &mut [f64], r: &mut [
     if let Err(e) = verdict(b, out.len(), p.len(), q.len(), r.len()) {
         return Answer::refused(e);
     }
+    // The verdict has seen to it that there is room. From here on an area's type says how long it is.
     let Some(p) = p.first_chunk_mut::<6400>() else {
         return Answer::refused(Ending::TooShort);
     };

@@ -14,7 +14,7 @@ fn taken(
     f: &Frame,
     g: usize,
     t: &Fitted,
-    d: Doing,
+    mut d: Doing,
     p: &mut Area,
     q: &mut Area,
     r: &mut Area,
@@ -25,7 +25,6 @@ fn taken(
 {
     // A build that passes the check has no group with too many rows.
     let freedom = fit::freedom(b, f, &t.x, p, q, r).unwrap_or(0);
-    let mut d = d;
     members::unscale(&b.points, b.centre, b.size, &f.points, &t.x, &mut d.points);
     d.freedom += freedom;
     d.groups[g] = GroupFit {
