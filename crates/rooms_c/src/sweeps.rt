@@ -46,7 +46,15 @@ pub extern "C" fn rooms_jacobian(
     let b = build_of(text);
     let mut n = 0;
     for _ in 0..times {
-        n = slopes::jacobian(&b.equations, &b.lines, chosen, Located { places, x }, columns, free, j);
+        n = slopes::jacobian(
+            &b.equations,
+            &b.lines,
+            chosen,
+            Located { places, x },
+            columns,
+            free,
+            j,
+        );
     }
     n
 }
