@@ -5,73 +5,57 @@ ghost use Rattle.level.specs.Level.{level_of};
 ghost use Rattle.measures.specs.Gauges.{measured_in};
 ghost use Rattle.plate.specs.Worst.{worst_of};
 ghost use Rattle.text.specs.Reader.{read_of};
-ghost use Rattle.text.specs.declared.Outcome.TheVariants.{Read};
-ghost use Rattle.rooms_c.specs.Jobs.{laid_over, Grouped, SolvesBy, SolvesText};
+ghost use Rattle.rooms_c.specs.Jobs.{built, laid_over, Grouped, SolvesText};
 
-use loops::smaller;
 use sketch::Build;
-use text::Outcome;
 
-fn lay(table: [usize; 40], to: &mut [usize])
-    ensures { to.new ≡ laid_over table to.old }
+// The build of a text, and one with nothing in it for a text that is refused.
+pub(crate) fn build_of(text: &[u8]) -> Build
+    ensures { result ≡ built (read_of text.now) }
 {
-    let n = smaller(40, to.len());
-    for i in 0..n {
-        to[i] = table[i];
-    }
+    text::read(text).unwrap_or_else(|_| Build::empty())
+}
+
+fn lay(table: &[usize; 40], to: &mut [usize])
+    ensures { to.new ≡ laid_over table.now to.old }
+{
+    let n = table.len().min(to.len());
+    to[..n].copy_from_slice(&table[..n]);
 }
 
 // `groups::groups`: how many there are, and the group of each point and each equation, as far as there is room.
 #[unsafe(no_mangle)]
 pub extern "C" fn rooms_groups(text: &[u8], points: &mut [usize], equations: &mut [usize]) -> usize
-    ensures { Grouped (grouping_of (read_of text.now).build) points.old equations.old points.new equations.new result }
+    ensures { Grouped (grouping_of (built (read_of text.now))) points.old equations.old points.new equations.new result }
 {
-    let reading = text::read(text);
-    let b = reading.build;
-    let g = groups::groups(b);
-    let of_point = g.of_point;
-    let of_equation = g.of_equation;
-    lay(of_point, points);
-    lay(of_equation, equations);
+    let g = groups::groups(&build_of(text));
+    lay(&g.of_point, points);
+    lay(&g.of_equation, equations);
     g.count
 }
 
 // `level::level`
 #[unsafe(no_mangle)]
 pub extern "C" fn rooms_level(text: &[u8], points: &mut [f64])
-    ensures { points.new ≡ level_of (read_of text.now).build points.old }
+    ensures { points.new ≡ level_of (built (read_of text.now)) points.old }
 {
-    let reading = text::read(text);
-    let b = reading.build;
-    level::level(b, points);
+    level::level(&build_of(text), points);
 }
 
 // `measures::measures`
 #[unsafe(no_mangle)]
 pub extern "C" fn rooms_measures(text: &[u8], points: &[f64], out: &mut [f64])
-    ensures { out.new ≡ measured_in (read_of text.now).build points.now out.old }
+    ensures { out.new ≡ measured_in (built (read_of text.now)) points.now out.old }
 {
-    let reading = text::read(text);
-    let b = reading.build;
-    measures::measures(b, points, out);
+    measures::measures(&build_of(text), points, out);
 }
 
 // `plate::worst`
 #[unsafe(no_mangle)]
 pub extern "C" fn rooms_worst(text: &[u8], points: &[f64]) -> f64
-    ensures { result ≡ worst_of (read_of text.now).build points.now }
+    ensures { result ≡ worst_of (built (read_of text.now)) points.now }
 {
-    let reading = text::read(text);
-    let b = reading.build;
-    plate::worst(b, points)
-}
-
-fn solved(b: Build, out: &mut [f64], p: &mut [f64], q: &mut [f64], r: &mut [f64]) -> usize
-    ensures { SolvesBy out.old p.old q.old r.old Read b out.new p.new q.new r.new result }
-{
-    let a = job::solve(b, out, p, q, r);
-    let ending = a.ending;
-    answer::number(ending)
+    plate::worst(&build_of(text), points)
 }
 
 // `job::solve`, the library call itself, on a lent output: the number that it ends in. A text that is not read has its own.
@@ -85,11 +69,8 @@ pub extern "C" fn rooms_solve(
 ) -> usize
     ensures { SolvesText out.old p.old q.old r.old text.now out.new p.new q.new r.new result }
 {
-    let reading = text::read(text);
-    let outcome = reading.outcome;
-    let b = reading.build;
-    match outcome {
-        Outcome::Read => solved(b, out, p, q, r),
-        Outcome::Ends(e) => answer::number(e),
+    match text::read(text) {
+        Ok(b) => usize::from(job::solve(&b, out, p, q, r).ending),
+        Err(e) => usize::from(e),
     }
 }

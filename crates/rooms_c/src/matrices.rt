@@ -1,30 +1,41 @@
 // `solver` and `nullspace`: bare matrices and lists.
-ghost use Rattle.std.specs.Prelude.{◌≡◌};
+ghost use Rattle.std.specs.Prelude.{◌≡◌, Err};
 ghost use Rattle.floats.specs.Largest.{max_abs_of};
 ghost use Rattle.solver.specs.Sums.{norm2_of};
-ghost use Rattle.rooms_c.specs.Code.{SolvesC, SpansC, Named, solved_code, rank_code};
+ghost use Rattle.rooms_c.specs.Code.{SolvesC, SpansC, IsNamed, solved_code, rank_code, refusal_code};
 
-use nullspace::NullSpace;
-use solver::Elimination;
+use slices::Refusal;
+use solver::Unsolved;
+
+// Document 01's number of a refusal.
+fn number(why: Refusal) -> usize
+    ensures { result ≡ refusal_code why }
+{
+    match why {
+        Refusal::TooMany => 3,
+        Refusal::TooShort => 9,
+    }
+}
 
 // `solver::solve_dense`: 0 solved, 3 and 9 refused, 255 a result that is not finite, 256 and the column, counted from 1, without a pivot.
 #[unsafe(no_mangle)]
 pub extern "C" fn rooms_solve_dense(a: &mut [f64], b: &mut [f64], n: usize) -> usize
     ensures { SolvesC n a.old b.old a.new b.new result }
 {
-    code(solver::solve_dense(a, b, n))
+    match solver::solve_dense(a, b, n) {
+        Ok(()) => 0,
+        Err(why) => code(why),
+    }
 }
 
-fn code(e: Elimination) -> usize
-    requires { Named e }
-    ensures { result ≡ solved_code e }
+fn code(why: Unsolved) -> usize
+    requires { IsNamed (Err why) }
+    ensures { result ≡ solved_code (Err why) }
 {
-    match e {
-        Elimination::Some => 0,
-        Elimination::NoPivot(column) => 256 + column,
-        Elimination::NotFinite => 255,
-        Elimination::TooMany => 3,
-        Elimination::TooShort => 9,
+    match why {
+        Unsolved::NoPivot(column) => 256 + column,
+        Unsolved::NotFinite => 255,
+        Unsolved::Refused(why) => number(why),
     }
 }
 
@@ -56,12 +67,8 @@ pub extern "C" fn rooms_null_space(
     rank_code(nullspace::null_space(m, rows, n, work, out))
 }
 
-fn rank_code(e: NullSpace) -> usize
-    ensures { result ≡ rank_code e }
+fn rank_code(rank: Result<usize, Refusal>) -> usize
+    ensures { result ≡ rank_code rank }
 {
-    match e {
-        NullSpace::Rank(r) => r,
-        NullSpace::TooMany => 259,
-        NullSpace::TooShort => 265,
-    }
+    rank.unwrap_or_else(|why| 256 + number(why))
 }

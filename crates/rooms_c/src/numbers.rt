@@ -1,4 +1,4 @@
-// `floats`, and the root.
+// `floats`, `slices` and the root.
 ghost use Rattle.std.specs.Prelude.{◌≡◌, get_or, set};
 ghost use Rattle.std.specs.Float.{nan};
 ghost use Rattle.std.specs.Float.Ieee.Scale.{finite};
@@ -44,14 +44,14 @@ pub extern "C" fn rooms_handed_out(x: f64) -> f64
 pub extern "C" fn rooms_get(s: &[f64], i: usize) -> f64
     ensures { result ≡ get_or s.now i nan }
 {
-    floats::get(s, i)
+    slices::get_or(s, i, f64::NAN)
 }
 
 #[unsafe(no_mangle)]
 pub extern "C" fn rooms_put(s: &mut [f64], i: usize, v: f64)
     ensures { s.new ≡ set s.old i v }
 {
-    floats::put(s, i, v);
+    slices::put(s, i, v);
 }
 
 #[unsafe(no_mangle)]

@@ -2,8 +2,12 @@
 ghost use Rattle.std.specs.Prelude.{◌≡◌};
 ghost use Rattle.loops.specs.Turns.{up_to};
 ghost use Rattle.rows.specs.Column.{laid};
+ghost use Rattle.rooms_c.specs.Jobs.{built};
 ghost use Rattle.rooms_c.specs.Sweeps.{column_again, jacobian_again};
 ghost use Rattle.text.specs.Reader.{read_of};
+
+use crate::builds::build_of;
+use rows::Located;
 
 // `rows::residuals`, `times` times over.
 #[unsafe(no_mangle)]
@@ -15,15 +19,12 @@ pub extern "C" fn rooms_residuals(
     r: &mut [f64],
     times: usize,
 ) -> usize
-    ensures { laid result r.new ≡ up_to times 0 (column_again (read_of text.now).build.equations (read_of text.now).build.lines chosen.now places.now x.now) (laid 0 r.old) }
+    ensures { laid result r.new ≡ up_to times 0 (column_again (built (read_of text.now)).equations (built (read_of text.now)).lines chosen.now places.now x.now) (laid 0 r.old) }
 {
-    let reading = text::read(text);
-    let b = reading.build;
-    let equations = b.equations;
-    let lines = b.lines;
+    let b = build_of(text);
     let mut n = 0;
     for _ in 0..times {
-        n = rows::residuals(equations, lines, chosen, places, x, r);
+        n = rows::residuals(&b.equations, &b.lines, chosen, Located { places, x }, r);
     }
     n
 }
@@ -40,15 +41,20 @@ pub extern "C" fn rooms_jacobian(
     j: &mut [f64],
     times: usize,
 ) -> usize
-    ensures { laid result j.new ≡ up_to times 0 (jacobian_again (read_of text.now).build.equations (read_of text.now).build.lines chosen.now places.now columns.now free x.now) (laid 0 j.old) }
+    ensures { laid result j.new ≡ up_to times 0 (jacobian_again (built (read_of text.now)).equations (built (read_of text.now)).lines chosen.now places.now columns.now free x.now) (laid 0 j.old) }
 {
-    let reading = text::read(text);
-    let b = reading.build;
-    let equations = b.equations;
-    let lines = b.lines;
+    let b = build_of(text);
     let mut n = 0;
     for _ in 0..times {
-        n = slopes::jacobian(equations, lines, chosen, places, columns, free, x, j);
+        n = slopes::jacobian(
+            &b.equations,
+            &b.lines,
+            chosen,
+            Located { places, x },
+            columns,
+            free,
+            j,
+        );
     }
     n
 }

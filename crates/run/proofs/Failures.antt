@@ -51,5 +51,5 @@ pub failures-printed : FailuresPrinted
 failures-printed s reply reply' p q r p' q' r' n w space pr qr rr says =
     let o = (texts-answered s reply reply' p q r p' q' r' n w space pr qr rr).seven.0 says in
     let read = ((reads-form s).whole (build_of o.job)).1 (o.short, (o.job, o.writes, refl)) in
-    let is : reply' ≡ written_of (reply_build p q r (build_of o.job)) reply = w.written ∙ ap (λ t. written_of (reply_by p q r t.outcome t.build) reply) read in
+    let is : reply' ≡ written_of (reply_build p q r (build_of o.job)) reply = w.written ∙ ap (λ t. written_of (reply_by p q r t) reply) read in
     (o.job, o.writes, subst (Failure (build_of o.job)) (sym is) (named (build_of o.job) reply space p q r (subst (λ l. Says l 7) is says)))

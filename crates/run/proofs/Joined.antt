@@ -3,6 +3,7 @@ use Prim.Native.Nat.{ℕ}
 use mathlib.Core.List.{List, []}
 use mathlib.Core.Path.{◌≡◌, ◌∙◌}
 use lib.Ieee.{Float}
+use Rattle.std.specs.Prelude.{Ok, Err}
 use Rattle.answer.specs.Endings.{refused_of}
 use Rattle.answer.specs.declared.Answer.{Answer}
 use Rattle.job.specs.Promise.{Does}
@@ -10,8 +11,6 @@ use Rattle.reply.specs.Promise.{Writes}
 use Rattle.sketch.specs.declared.Build.{Build}
 use Rattle.sketch.specs.declared.Ending.{Ending}
 use Rattle.text.specs.Reader.{read_of}
-use Rattle.text.specs.declared.Outcome.TheVariants.{Read, Ends}
-use Rattle.text.specs.declared.Reading.{Reading}
 use Rattle.run.specs.Promise.{room, reply_build, RunsBuild, Runs}
 
 module _ (reply reply' : List ℕ) (p q r p' q' r' : List Float) (n : ℕ) where
@@ -26,22 +25,21 @@ module _ (reply reply' : List ℕ) (p q r p' q' r' : List Float) (n : ℕ) where
     third = d.third;
   }
 
-  module _ (s : List ℕ) (t : Reading) (read : t ≡ read_of s) where
-    pub read-run : t.outcome ≡ Read → RunsBuild t.build reply p q r reply' p' q' r' n → Runs s reply p q r reply' p' q' r' n
-    read-run o w = record {
-      needed = rw (← read, o) w.needed;
-      written = rw (← read, o) w.written;
-      first = rw (← read, o) w.first;
-      second = rw (← read, o) w.second;
-      third = rw (← read, o) w.third;
-    }
-
-module _ (reply reply' : List ℕ) (p q r : List Float) (n : ℕ) (s : List ℕ) (t : Reading) (read : t ≡ read_of s) where
-  pub refused-run : (e : Ending) (a : Answer) → t.outcome ≡ Ends e → a ≡ refused_of e → Writes a [] 0 0 reply reply' n → Runs s reply p q r reply' p q r n
-  refused-run e a o h w = record {
-    needed = rw (← read, o) (w.needed ∙ rw h);
-    written = rw (← read, o) (w.written ∙ rw h);
-    first = rw (← read, o);
-    second = rw (← read, o);
-    third = rw (← read, o);
+  pub read-run : (s : List ℕ) (b : Build) → Ok b ≡ read_of s → RunsBuild b reply p q r reply' p' q' r' n → Runs s reply p q r reply' p' q' r' n
+  read-run s b read w = record {
+    needed = rw (← read) w.needed;
+    written = rw (← read) w.written;
+    first = rw (← read) w.first;
+    second = rw (← read) w.second;
+    third = rw (← read) w.third;
   }
+
+pub refused-run : (reply reply' : List ℕ) (p q r : List Float) (n : ℕ) (s : List ℕ) (e : Ending) (a : Answer) → Err e ≡ read_of s → a ≡ refused_of e
+    → Writes a [] 0 0 reply reply' n → Runs s reply p q r reply' p q r n
+refused-run reply reply' p q r n s e a read h w = record {
+  needed = rw (← read) (w.needed ∙ rw h);
+  written = rw (← read) (w.written ∙ rw h);
+  first = rw (← read);
+  second = rw (← read);
+  third = rw (← read);
+}

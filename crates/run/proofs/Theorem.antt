@@ -9,6 +9,7 @@ use native.Mathlib.Omega.{arith}
 use borrow.Author.Tests.{le-ltb}
 use lib.Dec.{eqb, ltb}
 use lib.Ieee.{Float}
+use Rattle.std.specs.Prelude.{Result, Ok, Err}
 use lib.ListN.{length}
 use Rattle.answer.specs.Endings.{refused_of}
 use Rattle.grammar.proofs.Theorem.{cases, reads-form}
@@ -22,9 +23,7 @@ use Rattle.sketch.specs.declared.Build.{Build}
 use Rattle.sketch.specs.declared.Ending.{Ending}
 use Rattle.sketch.specs.declared.Ending.TheVariants.{TooLong, BadForm, TooMany}
 use Rattle.spelling.proofs.Steps.{never}
-use Rattle.text.specs.Reader.{refused_with, read_of}
-use Rattle.text.specs.declared.Outcome.{Outcome}
-use Rattle.text.specs.declared.Outcome.TheVariants.{Read, Ends}
+use Rattle.text.specs.Reader.{read_of}
 use Rattle.run.specs.Promise.{room, came, reply_build, reply_by, reply_to}
 use Rattle.run.specs.Texts.{Says, Of, Answers, TextsAnswered}
 use Rattle.run.proofs.Built.{by-number, built_number, four-of, five-of, six-of, seven-of, fitted-of, nine-of, three-of, not-of-text}
@@ -36,14 +35,14 @@ of_build k = eqb k 0 || ltb 3 k
 
 module _ (p q r : List Float) where
   -- the number of a text that was read so
-  abbrev number_by : Outcome → Build → ℕ
-  number_by Read b = built_number p q r b
-  number_by (Ends e) b = number_of e
+  abbrev number_by : Result Build Ending → ℕ
+  number_by (Ok b) = built_number p q r b
+  number_by (Err e) = number_of e
 
-  says-by : (reply : List ℕ) → 8192 ≤ length reply → (o : Outcome) (b : Build) (k : ℕ) → k < 10 → Says (written_of (reply_by p q r o b) reply) k ↔ number_by o b ≡ k
+  says-by : (reply : List ℕ) → 8192 ≤ length reply → (t : Result Build Ending) (k : ℕ) → k < 10 → Says (written_of (reply_by p q r t) reply) k ↔ number_by t ≡ k
   unfolding reply_build
-  says-by reply h Read b k i = says-exactly (answer_after b (came p q r b)) (output_after b room (came p q r b)) b.point_count b.measure_count reply h k i
-  says-by reply h (Ends e) b k i = says-exactly (refused_of e) [] 0 0 reply h k i
+  says-by reply h (Ok b) k i = says-exactly (answer_after b (came p q r b)) (output_after b room (came p q r b)) b.point_count b.measure_count reply h k i
+  says-by reply h (Err e) k i = says-exactly (refused_of e) [] 0 0 reply h k i
 
   module _ (s : List ℕ) (pr : 6400 ≤ length p) (qr : 6400 ≤ length q) (rr : 6400 ≤ length r) where
     -- the counts of a text that is read are within their bounds
@@ -61,24 +60,24 @@ module _ (p q r : List Float) where
 
     -- 1, 2 and 3, which no build of a text has
     refused-exactly : (e : Ending) → ((j : Job) → Writes s j → built_number p q r (build_of j) ≢ number_of e)
-        → number_by (read_of s).outcome (read_of s).build ≡ number_of e ↔ read_of s ≡ refused_with e
+        → number_by (read_of s) ≡ number_of e ↔ read_of s ≡ Err e
     refused-exactly e other = (
       λ h.
-          cases s (λ t. read_of s ≡ t → number_by t.outcome t.build ≡ number_of e → t ≡ refused_with e)
-          (λ i k. ap refused_with (by-number TooLong e k))
-          (λ i k. ap refused_with (by-number BadForm e k))
-          (λ i k. ap refused_with (by-number TooMany e k))
+          cases s (λ t. read_of s ≡ t → number_by t ≡ number_of e → t ≡ Err e)
+          (λ i k. ap Err (by-number TooLong e k))
+          (λ i k. ap Err (by-number BadForm e k))
+          (λ i k. ap Err (by-number TooMany e k))
           (λ b i k. let w = ((reads-form s).whole b).0 i in absurd (other w.1.0 w.1.1 (sym (ap (built_number p q r) w.1.2) ∙ k)))
           refl h,
-      λ i. ap (λ t. number_by t.outcome t.build) i,
+      λ i. ap (λ t. number_by t) i,
     )
 
     -- the others, which are a build's
     built-exactly : (k : ℕ) (Q : Build → Type 0) → of_build k ≡ true → ((j : Job) → Writes s j → built_number p q r (build_of j) ≡ k ↔ Q (build_of j))
-        → number_by (read_of s).outcome (read_of s).build ≡ k ↔ Of s Q
+        → number_by (read_of s) ≡ k ↔ Of s Q
     built-exactly k Q t f = (
       λ h.
-          cases s (λ t. read_of s ≡ t → number_by t.outcome t.build ≡ k → Of s Q)
+          cases s (λ t. read_of s ≡ t → number_by t ≡ k → Of s Q)
           (λ i m. absurd (never (of_build 1) refl (ap of_build m ∙ t)))
           (λ i m. absurd (never (of_build 2) refl (ap of_build m ∙ t)))
           (λ i m. absurd (never (of_build 3) refl (ap of_build m ∙ t)))
@@ -87,13 +86,13 @@ module _ (p q r : List Float) where
           record { short = w.0; job = w.1.0; writes = w.1.1; holds = (f w.1.0 w.1.1).0 (sym (ap (built_number p q r) w.1.2) ∙ m) })
           refl h,
       λ o.
-          ap (λ t. number_by t.outcome t.build) (((reads-form s).whole (build_of o.job)).1 (o.short, (o.job, o.writes, refl)))
+          ap (λ t. number_by t) (((reads-form s).whole (build_of o.job)).1 (o.short, (o.job, o.writes, refl)))
           ∙ (f o.job o.writes).1 o.holds,
     )
 
     module _ (reply : List ℕ) (space : 8192 ≤ length reply) where
-      says : (k : ℕ) → k < 10 → Says (written_of (reply_to p q r s) reply) k ↔ number_by (read_of s).outcome (read_of s).build ≡ k
-      says k i = says-by reply space (read_of s).outcome (read_of s).build k i
+      says : (k : ℕ) → k < 10 → Says (written_of (reply_to p q r s) reply) k ↔ number_by (read_of s) ≡ k
+      says k i = says-by reply space (read_of s) k i
 
       answers : Answers s (written_of (reply_to p q r s) reply)
       answers =

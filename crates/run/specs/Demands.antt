@@ -1,7 +1,7 @@
 -- The page to read first: document 01's three demands and its table "Both sides of the line" as one statement, in 01's order. `demands`
 -- (proofs/Demands.antt) proves it, each line by the theorem of the room that it is about. What a line says is in the file that its
 -- name is imported from.
-use Rattle.std.specs.Prelude.{ℕ, Bool, List, ◌≡◌, T, Float}
+use Rattle.std.specs.Prelude.{ℕ, Bool, List, ◌≡◌, T, Float, Ok}
 use Rattle.std.specs.Float.{binary64}
 use Rattle.std.specs.Float.Ieee.{fits}
 use Rattle.std.specs.Float.Ieee.Positive.{positive}
@@ -21,7 +21,6 @@ use Rattle.root.specs.Rounded.{Rounded}
 use Rattle.sketch.specs.Check.{check_of}
 use Rattle.sketch.specs.Looked.{LooksEverywhere}
 use Rattle.sketch.specs.declared.Build.{Build}
-use Rattle.sketch.specs.declared.Checked.TheVariants.{Passes}
 use Rattle.text.specs.Reader.{read_of}
 use Rattle.run.specs.Failures.{FailuresPrinted}
 use Rattle.run.specs.Texts.{TextsAnswered}
@@ -57,8 +56,8 @@ pub record Demands : Type 0 where
   pub root-once : (x r s : Float) → Rounded x r → Rounded x s → r ≡ s
   -- ---- 3. groups are exactly the chains, and a group depends on its own part of the build alone
 
-  pub groups : (b : Build) → check_of b ≡ Passes → GroupsAreChains (touched_by b) (grouping_of b)
-  pub lowest : (b : Build) (g : ℕ) → check_of b ≡ Passes → LowestIs b (grouping_of b) g
+  pub groups : (b : Build) → check_of b ≡ Ok tt → GroupsAreChains (touched_by b) (grouping_of b)
+  pub lowest : (b : Build) (g : ℕ) → check_of b ≡ Ok tt → LowestIs b (grouping_of b) g
   pub own-part : {b b' : Build} {g g' : ℕ} → SharesGroup b b' g g' → FitsAlike b b' g g'
   -- ---- the form of a text: what is read is what the form says, and a text is one job's
 

@@ -1,16 +1,15 @@
 -- The reply to a job's text, and what is left in the lent areas, for every input.
-use Rattle.std.specs.Prelude.{ℕ, List, [], ◌≡◌, Float, length, replicate}
+use Rattle.std.specs.Prelude.{ℕ, List, [], ◌≡◌, Float, length, replicate, Result, Ok, Err}
 use Rattle.answer.specs.Endings.{refused_of}
 use Rattle.floats.specs.Only.{only-answer}
 use Rattle.floats.specs.Ops.{zero⁺}
 use Rattle.job.specs.Promise.{answer_after, output_after, area_after, verdict}
 use Rattle.reply.specs.Promise.{written_of}
 use Rattle.reply.specs.Reply.{reply_of}
+use Rattle.sketch.specs.Check.{Checked}
 use Rattle.sketch.specs.declared.Build.{Build}
-use Rattle.sketch.specs.declared.Checked.{Checked}
+use Rattle.sketch.specs.declared.Ending.{Ending}
 use Rattle.text.specs.Reader.{read_of}
-use Rattle.text.specs.declared.Outcome.{Outcome}
-use Rattle.text.specs.declared.Outcome.TheVariants.{Read, Ends}
 
 -- the output before the job
 abbrev pub room : List Float
@@ -25,20 +24,20 @@ module _ (p q r : List Float) where
   reply_build b = reply_of (answer_after b (came b)) (output_after b room (came b)) b.point_count b.measure_count
 
   -- a text that is not read has the status line alone
-  abbrev pub reply_by : Outcome → Build → List ℕ
-  reply_by Read b = reply_build b
-  reply_by (Ends e) b = reply_of (refused_of e) [] 0 0
+  abbrev pub reply_by : Result Build Ending → List ℕ
+  reply_by (Ok b) = reply_build b
+  reply_by (Err e) = reply_of (refused_of e) [] 0 0
 
   -- and leaves the areas alone
-  abbrev pub area_by : List Float → Outcome → Build → List Float
-  area_by a Read b = area_after a (came b)
-  area_by a (Ends e) b = a
+  abbrev pub area_by : List Float → Result Build Ending → List Float
+  area_by a (Ok b) = area_after a (came b)
+  area_by a (Err e) = a
 
   abbrev pub reply_to : List ℕ → List ℕ
-  reply_to s = reply_by (read_of s).outcome (read_of s).build
+  reply_to s = reply_by (read_of s)
 
   abbrev pub area_to : List Float → List ℕ → List Float
-  area_to a s = area_by a (read_of s).outcome (read_of s).build
+  area_to a s = area_by a (read_of s)
 
 pub record RunsBuild (b : Build) (reply : List ℕ) (p q r : List Float) (reply' : List ℕ) (p' q' r' : List Float) (n : ℕ) : Type 0 where
   pub needed : n ≡ length (reply_build p q r b)

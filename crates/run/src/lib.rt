@@ -4,17 +4,17 @@
 
 ghost use Rattle.run.specs.Promise.{Runs, RunsBuild};
 
+use answer::Answer;
 use sketch::Build;
-use text::Outcome;
 
 // The reply to a text that was read.
-fn reply_to(b: Build, reply: &mut [u8], p: &mut [f64], q: &mut [f64], r: &mut [f64]) -> usize
-    ensures { RunsBuild b reply.old p.old q.old r.old reply.new p.new q.new r.new result }
+fn reply_to(b: &Build, reply: &mut [u8], p: &mut [f64], q: &mut [f64], r: &mut [f64]) -> usize
+    ensures { RunsBuild b.now reply.old p.old q.old r.old reply.new p.new q.new r.new result }
 {
     // Two numbers for each of 40 points, and one for each of 20 measures.
     let mut out = [0.0; 100];
     let a = job::solve(b, &mut out, p, q, r);
-    reply::write(a, b.point_count, b.measure_count, &out, reply)
+    reply::write(&a, b.point_count, b.measure_count, &out, reply)
 }
 
 // Runs the job whose text is `s`. The answer is the room that the reply needs; where `reply` has it the reply is at its head, and
@@ -22,14 +22,8 @@ fn reply_to(b: Build, reply: &mut [u8], p: &mut [f64], q: &mut [f64], r: &mut [f
 pub fn run(s: &[u8], reply: &mut [u8], p: &mut [f64], q: &mut [f64], r: &mut [f64]) -> usize
     ensures { Runs s.now reply.old p.old q.old r.old reply.new p.new q.new r.new result }
 {
-    let reading = text::read(s);
-    let outcome = reading.outcome;
-    let b = reading.build;
-    match outcome {
-        Outcome::Read => reply_to(b, reply, p, q, r),
-        Outcome::Ends(e) => {
-            let none = [0.0; 0];
-            reply::write(answer::refused(e), 0, 0, &none, reply)
-        }
+    match text::read(s) {
+        Ok(b) => reply_to(&b, reply, p, q, r),
+        Err(e) => reply::write(&Answer::refused(e), 0, 0, &[], reply),
     }
 }

@@ -1,9 +1,14 @@
--- Assumes nothing.
+-- No reply is longer than 8,192 bytes, so the whole of it is laid. Assumes nothing.
 use borrow.Author.Rules.{rules}
-use Rattle.fitter.proofs.Laid.{laid}
+use lib.ListN.{length}
+use Prim.Native.Nat.{◌≤◌}
+use Rattle.loops.proofs.Parts.{front}
+use Rattle.run.proofs.Whole.{fits, written}
+use Rattle.fitter.specs.Answered.{answered}
 use Rattle.fitter.proofs.output.lay.Goals as goal
 
 pub returns : goal.returns
+unfolding answered
 returns c =
-    let l = laid _ _ _ _ _ _ _ c.run.ensures (search rules) c.run.auto.reply in
-    record { prefix_len = l.0; reply_after = l.1 }
+    let h : c.run.result ≤ length c.run.new.reply = rw c.run.auto.reply (fits _ _ _ _ _ _ _ _ _ _ c.run.ensures (search rules)) in
+    record { prefix_len = (h, front _ _ h); reply_after = written _ _ _ _ _ _ _ _ _ _ c.run.ensures (search rules) }

@@ -9,4 +9,4 @@ use Rattle.rooms_c.proofs.sweeps.rooms_jacobian.Given as goal
 abbrev pub invariant-loop : goal.invariant-loop
 invariant-loop l =
     (l.counter ≤ l.times) × (length l.j ≡ length l.initial.j)
-    × (up_to l.times l.counter (jacobian_again l.equations l.lines l.chosen l.places l.columns l.free l.x) (laid l.n l.j) ≡ up_to l.times 0 (jacobian_again l.equations l.lines l.chosen l.places l.columns l.free l.x) (laid l.initial.n l.initial.j))
+    × (up_to l.times l.counter (jacobian_again l.b.equations l.b.lines l.chosen l.places l.columns l.free l.x) (laid l.n l.j) ≡ up_to l.times 0 (jacobian_again l.b.equations l.b.lines l.chosen l.places l.columns l.free l.x) (laid l.initial.n l.initial.j))

@@ -12,4 +12,4 @@ unfolding column_again
 loop-preserved c = (search rules, search rules, search (up_to-next, rules))
 
 pub returns : goal.returns
-returns c = rw (← c.read-reading.ensures) (up_to-done _ _ _ _ _ (search rules) c.loop.invariant.2)
+returns c = rw (← c.build_of-b.ensures) (up_to-done _ _ _ _ _ (search rules) c.loop.invariant.2)

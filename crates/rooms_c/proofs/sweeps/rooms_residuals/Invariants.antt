@@ -9,4 +9,4 @@ use Rattle.rooms_c.proofs.sweeps.rooms_residuals.Given as goal
 abbrev pub invariant-loop : goal.invariant-loop
 invariant-loop l =
     (l.counter ≤ l.times) × (length l.r ≡ length l.initial.r)
-    × (up_to l.times l.counter (column_again l.equations l.lines l.chosen l.places l.x) (laid l.n l.r) ≡ up_to l.times 0 (column_again l.equations l.lines l.chosen l.places l.x) (laid l.initial.n l.initial.r))
+    × (up_to l.times l.counter (column_again l.b.equations l.b.lines l.chosen l.places l.x) (laid l.n l.r) ≡ up_to l.times 0 (column_again l.b.equations l.b.lines l.chosen l.places l.x) (laid l.initial.n l.initial.r))
