@@ -44,17 +44,10 @@ pub extern "C" fn rooms_jacobian(
     ensures { laid result j.new ≡ up_to times 0 (jacobian_again (built (read_of text.now)).equations (built (read_of text.now)).lines chosen.now places.now columns.now free x.now) (laid 0 j.old) }
 {
     let b = build_of(text);
+    let points = Located { places, x };
     let mut n = 0;
     for _ in 0..times {
-        n = slopes::jacobian(
-            &b.equations,
-            &b.lines,
-            chosen,
-            Located { places, x },
-            columns,
-            free,
-            j,
-        );
+        n = slopes::jacobian(&b.equations, &b.lines, chosen, points, columns, free, j);
     }
     n
 }
