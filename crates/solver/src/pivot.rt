@@ -11,10 +11,10 @@ use crate::{Unsolved, below};
 fn scale(a: &[f64]) -> f64
     ensures { result ≡ scale_of a.now }
 {
-    // A plain loop: a fold took longer.
+    // A plain loop: the same by `fold` took longer.
     let mut m = 0.0;
-    for i in 0..a.len() {
-        m = larger(m, a[i]);
+    for v in a {
+        m = larger(m, *v);
     }
     floats::max(m, 1e-300)
 }
