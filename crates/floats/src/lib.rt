@@ -97,8 +97,8 @@ pub fn copy(from: &[f64], to: &mut [f64])
 pub fn hand_out(s: &mut [f64])
     ensures { s.new ≡ s.old }
 {
-    for i in 0..s.len() {
-        s[i] = handed_out(s[i]);
+    for x in s.iter_mut() {
+        *x = handed_out(*x);
     }
 }
 

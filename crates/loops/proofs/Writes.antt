@@ -1,6 +1,7 @@
 -- What a slice holds while a loop writes it from the front, one place a turn.
 --     fill     every place gets the value v
 --     into     the places of t get g of what l holds there, in turn
+--     own      the places of l get g of what they hold, in turn
 -- Each has a law for a turn (-next) and for the end (-done, -whole). Assumes nothing.
 use Prim.Native.Nat.{ℕ, zero, suc, ◌+◌, ◌≤◌, ◌<◌}
 use mathlib.Core.List.{List, [], ◌∷◌, ◌++◌, map, append-nil}
@@ -41,3 +42,14 @@ module _ {A B : Type 0} (g : A → B) where
   -- where t is as long as l
   pub into-whole : (l : List A) (t s : List B) (i : ℕ) → length t ≡ length l → length l ≤ i → i ≤ length l → s ≡ map g (take i l) ++ drop i t → s ≡ map g l
   into-whole l t s i e h k q = let all : length t ≤ length l = omega arith in into-done l t s i h k q ∙ rw (drop_of_length-le t all, append-nil)
+
+module _ {A : Type 0} (g : A → A) where
+  untouched : (d : A) (l : List A) (n : ℕ) → n < length l → get_or (map g (take n l) ++ drop n l) n d ≡ get_or l n d
+  untouched d [] n h = absurd (not-suc-le-zero h)
+  untouched d (x ∷ l) zero h = refl
+  untouched d (x ∷ l) (suc n) h = untouched d l n (le_of_suc-le-suc h)
+
+  -- where the places are l's own
+  pub own_next : (d : A) (l s : List A) (i : ℕ) → i < length l → s ≡ map g (take i l) ++ drop i l
+      → set s i (g (get_or s i d)) ≡ map g (take (i + 1) l) ++ drop (i + 1) l
+  own_next d l s i h q = into_next g d l l s i (g (get_or s i d)) h h (ap (λ t. g (get_or t i d)) q ∙ ap g (untouched d l i h)) q

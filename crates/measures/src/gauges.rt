@@ -43,7 +43,7 @@ fn gauge(m: &Measured, lines: &[Line], points: Located<'_>, size: f64) -> f64
 fn gauge_all(measures: &[Measured], lines: &[Line], points: Located<'_>, size: f64, out: &mut [f64])
     ensures { out.new ≡ copied_of (map (gauge_of lines.now points.entry.places.now points.entry.x.now size) measures.now) out.old }
 {
-    // By index: what iter_mut writes no proof knows afterwards.
+    // By index: what is written through `zip` over `iter_mut` no proof knows afterwards.
     for i in 0..measures.len().min(out.len()) {
         out[i] = gauge(&measures[i], lines, points, size);
     }

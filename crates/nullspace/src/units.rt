@@ -4,13 +4,11 @@ ghost use Rattle.floats.specs.Ops.{◌⊘◌};
 ghost use Rattle.nullspace.specs.Steps.{unit_of};
 ghost use Rattle.nullspace.specs.Layout.{unit_rows};
 
-fn divide(row: &[f64], len: f64, to: &mut [f64])
-    requires { length to.old ≡ length row.now }
-    ensures { to.new ≡ map (λ v. v ⊘ len) row.now }
+fn divide(row: &mut [f64], len: f64)
+    ensures { row.new ≡ map (λ v. v ⊘ len) row.old }
 {
-    // By index: what iter_mut writes no proof knows afterwards.
-    for i in 0..row.len() {
-        to[i] = row[i] / len;
+    for x in row.iter_mut() {
+        *x /= len;
     }
 }
 
@@ -21,10 +19,9 @@ fn unit_row(row: &[f64], to: &mut [f64])
     ensures { to.new ≡ unit_of row.now }
 {
     let len = root::sqrt(solver::norm2(row));
+    to.copy_from_slice(row);
     if len > 0.0 {
-        divide(row, len, to);
-    } else {
-        to.copy_from_slice(row);
+        divide(to, len);
     }
 }
 

@@ -23,7 +23,7 @@ pub fn scaled(centre: Vec2, size: f64, points: &[f64], n: usize) -> [f64; 80]
     ensures { result ≡ all_scaled_of centre size (min n 40) points.now }
 {
     let mut x = [0.0; 80];
-    // By index: a point's two places are written together, and what iter_mut writes no proof knows afterwards.
+    // By index: a point's two places are written together, and what is written through `chunks_mut` no proof knows afterwards.
     for p in 0..n.min(40) {
         scale(&mut x, p, centre, size, points);
     }

@@ -8,7 +8,7 @@ pub fn row_update(row: &mut [f64], f: f64, other: &[f64])
     ensures { row.new ≡ up_to (length other.now) 0 (less_by other.now f) row.old }
 {
     let end = row.len().min(other.len());
-    // By index: what iter_mut writes no proof knows afterwards.
+    // By index: what is written through `zip` over `iter_mut` no proof knows afterwards.
     for i in 0..end {
         row[i] -= f * other[i];
     }

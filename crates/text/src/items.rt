@@ -19,7 +19,7 @@ pub(crate) fn items<T: Item>(s: &[u8], at: usize, n: usize, places: &mut [T]) ->
     ensures kept { drop n places.new ≡ drop n places.old }
 {
     let mut next = at;
-    // By index: what iter_mut writes no proof knows afterwards.
+    // By index: the first n alone, and what is written through `take` over `iter_mut` no proof knows afterwards.
     for i in 0..n {
         let (item, after) = T::line(s, next)?;
         places[i] = item;
