@@ -1,23 +1,12 @@
 // The diagonal of the product, and its damping.
 ghost use Rattle.std.specs.Prelude.{◌≡◌, ◌*◌, ◌≤◌, length};
-ghost use Rattle.normal.specs.Half.{triangle, spread_of, half_largest_of};
+ghost use Rattle.normal.specs.Half.{spread_of};
 ghost use Rattle.normal.specs.Normal.{damped_of};
 ghost use Rattle.normal.specs.Promise.{Damps, Tops};
 
 use crate::half::triangle;
-use crate::spread::spread;
+use crate::spread::Half;
 use slices::Refusal;
-
-fn largest(h: &[f64], rows: usize) -> f64
-    requires { (rows ≤ 80) × (triangle rows ≤ length h.now) }
-    ensures { result ≡ half_largest_of rows h.now }
-{
-    let mut m = 0.0;
-    for i in 0..rows {
-        m = floats::max(m, h[triangle(i) + i]);
-    }
-    m
-}
 
 // The largest number on the diagonal of the matrix whose half h is, at least 1e-300.
 #[tactic(auto, unfolding(crate::specs::Half::half_max_of))]
@@ -30,7 +19,8 @@ pub fn diag_max(h: &[f64], rows: usize) -> Result<f64, Refusal>
     if h.len() < triangle(rows) {
         return Err(Refusal::TooShort);
     }
-    Ok(floats::max(largest(h, rows), 1e-300))
+    let h = Half { numbers: h, rows };
+    Ok(floats::max(h.largest(), 1e-300))
 }
 
 #[tactic(auto, using(loops::proofs::Cells::cells))]
@@ -44,12 +34,12 @@ fn add_on_diagonal(w: &mut [f64], rows: usize, mu: f64, m: f64)
 }
 
 // The matrix whose half h is with mu * m added on its diagonal, over the whole of w. The half itself is never damped.
-fn whole_damped(h: &[f64], w: &mut [f64], rows: usize, mu: f64, m: f64)
-    requires { (rows ≤ 80) × (triangle rows ≤ length h.now) × (length w.old ≡ rows * rows) }
-    ensures { w.new ≡ damped_of rows mu m (spread_of rows h.now) }
+fn whole_damped(h: &Half, w: &mut [f64], mu: f64, m: f64)
+    requires { length w.old ≡ h.now.rows * h.now.rows }
+    ensures { w.new ≡ damped_of h.now.rows mu m (spread_of h.now.rows h.now.numbers.now) }
 {
-    spread(h, w, rows);
-    add_on_diagonal(w, rows, mu, m);
+    h.spread(w);
+    add_on_diagonal(w, h.rows, mu, m);
 }
 
 // The matrix whose half h is with mu * m added on its diagonal, at the head of w.
@@ -63,6 +53,7 @@ pub fn damped(h: &[f64], w: &mut [f64], rows: usize, mu: f64, m: f64) -> Result<
     if h.len() < triangle(rows) || w.len() < nn {
         return Err(Refusal::TooShort);
     }
-    whole_damped(h, &mut w[..nn], rows, mu, m);
+    let h = Half { numbers: h, rows };
+    whole_damped(&h, &mut w[..nn], mu, m);
     Ok(())
 }

@@ -2,7 +2,7 @@
 use mathlib.Core.Path.{refl}
 use borrow.Author.Rules.{rules}
 use Rattle.loops.proofs.Turning.{up_to-next, up_to-done}
-use Rattle.normal.proofs.spread.spread.Goals as goal
+use Rattle.normal.proofs.spread.Half.spread.Goals as goal
 
 pub loop-i-init : goal.loop-i-init
 loop-i-init c = (search rules, refl, refl)

@@ -11,7 +11,7 @@ use Rattle.loops.proofs.Turning.{up_to-next, up_to-done}
 use Rattle.normal.specs.Half.{triangle, spread_one, spread_row}
 use Rattle.normal.specs.Normal.{set_both}
 use Rattle.normal.proofs.Halves.{halves}
-use Rattle.normal.proofs.spread.spread_row.Goals as goal
+use Rattle.normal.proofs.spread.Half.spread_row.Goals as goal
 
 -- left of the diagonal
 left : (n i k : ℕ) → k < i + 1 → i < n → k < n
@@ -32,11 +32,11 @@ loop-k-init c = (search rules, refl, search rules, refl, refl)
 pub overflow_add-v : goal.overflow_add-v
 overflow_add-v c = search (halves, rules)
 
-pub offset_bounds-h-t : goal.offset_bounds-h-t
-offset_bounds-h-t c = search (halves, rules)
+pub offset_bounds-self-t : goal.offset_bounds-self-t
+offset_bounds-self-t c = search (halves, rules)
 
-pub bounds-h-t : goal.bounds-h-t
-bounds-h-t c = search (halves, rules)
+pub bounds-self-t : goal.bounds-self-t
+bounds-self-t c = search (halves, rules)
 
 pub overflow_mul-w : goal.overflow_mul-w
 overflow_mul-w c = search (left, cells, rules)
