@@ -22,7 +22,7 @@ fn half_row(j: &Jacobian, h: &mut [f64], i: usize)
     ensures { h.new ≡ put_row j.now.columns j.now.numbers.now i h.old }
 {
     let t = triangle(i);
-    // By index: what iter_mut writes no proof knows afterwards.
+    // By index: k is the number of a row of the Jacobian too.
     for k in 0..i + 1 {
         h[t + k] = j.rows_product(k, i);
     }
