@@ -31,7 +31,7 @@ pub fn start(points: &[Point; 40], centre: Vec2, size: f64, l: &Points, x: &mut 
 {
     let listed = l.0.numbers();
     if 2 * listed.len() <= x.len() {
-        // By index: what is written through `chunks_mut` no proof knows afterwards.
+        // Two places are written for each point; what is written through `chunks_mut` no proof knows afterwards.
         for (k, p) in listed.iter().enumerate() {
             let s = scaled(slices::get_or(points, *p, NOWHERE), centre, size);
             x[2 * k] = s.x;

@@ -50,9 +50,9 @@ module _ (n : ℕ) (mu m : Float) (h r w w₁ w₂ y : List Float) (d : Answered
   damped-head : take (n * n) w₁ ≡ damped
   damped-head = rw made (take_at damped (drop (n * n) w) (n * n) head-long)
 
-  pub step_is : Solves n w₁ r w₂ y e → Finds n damped r y e
+  pub eliminated-is : Solves n w₁ r w₂ y e → Finds n damped r y e
   unfolding checked
-  step_is s =
+  eliminated-is s =
       let fits : n * n ≤ length w₁ = rw kept k in
       let room : n ≤ length r = rw long (le_refl n) in
       let full : length r ≤ n = rw long (le_refl n) in

@@ -13,7 +13,7 @@ use Rattle.std.specs.Result.{result_unwrap_or}
 use Rattle.floats.specs.Ops.{zero⁺}
 use Rattle.normal.proofs.Halves.{same_numbers}
 use Rattle.normal.specs.Half.{triangle, half_of, spread_of, half_max_of, HalfHolds}
-use Rattle.normal.specs.Normal.{product_of}
+use Rattle.normal.specs.Normal.{product_of, diag_max_of}
 use Rattle.normal.specs.Promise.{Answered, Multiplies, Tops}
 use Rattle.slices.specs.declared.Refusal.{Refusal}
 use Rattle.loops.proofs.Picks.{either}
@@ -25,23 +25,35 @@ use Rattle.rounds.specs.declared.Reason.TheVariants.{NoPivot, NotFinite, NotLess
 
 -- ---- what a round begins with: the half of the product, which holds the product, and the largest number on its diagonal
 
+module _ (rows nf : ℕ) (j h h' : List Float) (few : rows ≤ 80) (narrow : nf ≤ 80) (l : length j ≡ rows * nf) (k : length h ≡ triangle rows) (d : Answered) (e : Multiplies rows nf j h h' d) where
+  holds : HalfHolds rows (product_of rows nf j) h'
+  holds =
+      let p : rows * nf ≤ length j = rw l (le_refl _) in
+      let q : triangle rows ≤ length h = rw k (le_refl _) in
+      let made : h' ≡ half_of rows (product_of rows nf j) ++ drop (triangle rows) h =
+      e.slice ∙ rw (le-ltb 80 rows few, le-ltb 80 nf narrow, le-leb (rows * nf) (length j) p, le-leb (triangle rows) (length h) q) in
+      rw made (same_numbers rows nf j (drop (triangle rows) h)).1
+
+  pub product_found : spread_of rows h' ≡ product_of rows nf j
+  product_found = holds.spread
+
+  pub diagonal-found : (t : Result Float Refusal) (m : Float) → length h' ≡ length h → Tops rows h' t → m ≡ result_unwrap_or t zero⁺ → m ≡ diag_max_of rows (spread_of rows h')
+  diagonal-found t m kept o c =
+      let q : triangle rows ≤ length h' = rw (kept ∙ k) (le_refl _) in
+      let a : t ≡ Ok (half_max_of rows h') = o.answer ∙ rw (le-ltb 80 rows few, le-leb (triangle rows) (length h') q) in
+      c ∙ rw (a, product_found) holds.largest
+
 module _ (P : Problem) (j h h' : List Float) (n : ℕ) (count : n ≡ P.rows) (few : P.rows ≤ 80) (narrow : length P.free ≤ 80) (l : length j ≡ P.rows * length P.free)
     (k : length h ≡ triangle P.rows) (d : Answered) (e : Multiplies n (length P.free) j h h' d) (kept : length h' ≡ length h) where
-  holds : HalfHolds P.rows (product_of P.rows (length P.free) j) h'
-  holds =
-      let p : P.rows * length P.free ≤ length j = rw l (le_refl _) in
-      let q : triangle P.rows ≤ length h = rw k (le_refl _) in
-      let made : h' ≡ half_of P.rows (product_of P.rows (length P.free) j) ++ drop (triangle P.rows) h =
-      (rw count at e.slice)
-      ∙ rw (le-ltb 80 P.rows few, le-ltb 80 (length P.free) narrow, le-leb (P.rows * length P.free) (length j) p, le-leb (triangle P.rows) (length h) q) in
-      rw made (same_numbers P.rows (length P.free) j (drop (triangle P.rows) h)).1
-
   pub tries_start : (t : Result Float Refusal) (m : Float) (s : State) → Tops n h' t → m ≡ result_unwrap_or t zero⁺
       → tries_of P j (spread_of P.rows h') m 12 s ≡ tries_at P j s
   tries_start t m s o c =
-      let q : triangle P.rows ≤ length h' = rw (kept ∙ k) (le_refl _) in
-      let a : t ≡ Ok (half_max_of P.rows h') = (rw count at o.answer) ∙ rw (le-ltb 80 P.rows few, le-leb (triangle P.rows) (length h') q) in
-      rw (c, a, holds.largest, holds.spread)
+      let product : Multiplies P.rows (length P.free) j h h' d = rw count at e in
+      let tops : Tops P.rows h' t = rw count at o in
+      rw (
+        diagonal-found P.rows (length P.free) j h h' few narrow l k d product t m kept tops c,
+        product_found P.rows (length P.free) j h h' few narrow l k d product,
+      )
 
 -- ---- a try
 
