@@ -72,9 +72,9 @@ pub fn read(s: &[u8]) -> Result<Build, Ending>
     if s.len() > 16384 {
         return Err(Ending::TooLong);
     }
-    let (n, at) = counts(s, 0).or(Err(Ending::BadForm))?;
+    let (n, at) = counts(s, 0).map_err(|_| Ending::BadForm)?;
     if too_many(n) {
         return Err(Ending::TooMany);
     }
-    rest(s, at, n).or(Err(Ending::BadForm))
+    rest(s, at, n).map_err(|_| Ending::BadForm)
 }
