@@ -15,7 +15,7 @@ use Rattle.spelling.proofs.FloatForm.{float-reads}
 use Rattle.spelling.proofs.Forms.{Reads, parted, anything, before_more, done-reads, then-reads, mean-reads, after-byte, after-word, as-reads, or-reads}
 use Rattle.spelling.proofs.Steps.{starts}
 use Rattle.spelling.proofs.WholeForm.{whole-reads}
-use Rattle.std.proofs.Common.{Some}
+use Rattle.std.proofs.Common.{Ok}
 use Rattle.spelling.specs.Letters.{ascii}
 use Rattle.spelling.specs.Places.{◌>>=◌}
 use Rattle.spelling.specs.Printed.{whole_text, float_text}
@@ -128,4 +128,4 @@ fields-part (f ∷ l) v t h = refl
 pub fields-reads : (l : List Sort) → Reads (contents_text l) (ContentsFit l) (means_of l) (row_at l) parted
 fields-reads [] = done-reads tt parted
 fields-reads (f ∷ l) =
-    then-reads (λ r s. row_at l s r.1 >>= λ m. Some ((r.0, m.0), m.1)) (field-reads f) (λ a. mean-reads (λ m. (meant_of f a, m)) (fields-reads l)) (λ a. fields-part l)
+    then-reads (λ r s. row_at l s r.1 >>= λ m. Ok ((r.0, m.0), m.1)) (field-reads f) (λ a. mean-reads (λ m. (meant_of f a, m)) (fields-reads l)) (λ a. fields-part l)

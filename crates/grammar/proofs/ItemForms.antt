@@ -4,7 +4,7 @@ use mathlib.Core.List.{List, [], ◌∷◌, ◌++◌, map, append_assoc}
 use mathlib.Core.Path.{◌≡◌, refl, sym, ap, ap₂, subst, ◌∙◌}
 use native.Mathlib.Omega.{arith}
 use lib.ListN.{length}
-use Rattle.std.proofs.Common.{Some}
+use Rattle.std.proofs.Common.{Ok}
 use Rattle.spelling.proofs.Forms.{Reads, anything, read_same}
 use Rattle.spelling.proofs.Steps.{Here, bound}
 use Rattle.spelling.specs.Places.{Read}
@@ -18,7 +18,7 @@ EachFits fit k l = (length l ≡ k) × Each fit l
 
 module _ {A M : Type 0} {text : A → List ℕ} {fit : A → Type 0} {mean : A → M} {read : List ℕ → ℕ → Read M} (r : Reads text fit mean read anything) where
   forward : (k : ℕ) (s : List ℕ) (at : ℕ) (l : List A) (t : List ℕ) → EachFits fit k l → Here s at (each text l ++ t)
-      → (n : ℕ) × (items_at read k s at ≡ Some (map mean l, n)) × Here s n t
+      → (n : ℕ) × (items_at read k s at ≡ Ok (map mean l, n)) × Here s n t
   unfolding items_at
   forward zero s at [] t p h = (at, refl, h)
   forward zero s at (a ∷ l) t p h = absurd (omega (arith, p.0))
@@ -28,7 +28,7 @@ module _ {A M : Type 0} {text : A → List ℕ} {fit : A → Type 0} {mean : A �
       let g = forward k s f.0 l t (omega (arith, p.0), p.1.1) f.2 in
       (g.0, rw (f.1, g.1), g.2)
 
-  backward : (k : ℕ) (s : List ℕ) (at : ℕ) (t : List ℕ) (m : List M) (n : ℕ) → Here s at t → items_at read k s at ≡ Some (m, n)
+  backward : (k : ℕ) (s : List ℕ) (at : ℕ) (t : List ℕ) (m : List M) (n : ℕ) → Here s at t → items_at read k s at ≡ Ok (m, n)
       → (l : List A) × (u : List ℕ) × EachFits fit k l × (map mean l ≡ m) × (t ≡ each text l ++ u) × Here s n u
   unfolding items_at
   backward zero s at t m n h e = let q = read_same e in ([], t, (refl, tt), q.0, refl, subst (λ (i : ℕ). Here s i t) q.1 h)

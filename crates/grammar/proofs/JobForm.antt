@@ -4,7 +4,7 @@ use mathlib.Core.List.{List, ◌++◌, map, append_assoc}
 use mathlib.Core.Path.{◌≡◌, refl, sym}
 use lib.Ieee.{Float}
 use lib.ListN.{length-map}
-use Rattle.std.proofs.Common.{Some}
+use Rattle.std.proofs.Common.{Ok}
 use Rattle.plane.specs.declared.Vec2.{Vec2}
 use Rattle.sketch.specs.Blank.{sample}
 use Rattle.sketch.specs.declared.Active.{Active}
@@ -38,7 +38,7 @@ abbrev pub given_counts : Counts → C.Counts
 given_counts n = record { points = n.points; lines = n.lines; equations = n.equations; measures = n.measures }
 
 abbrev last_count : ℕ → ℕ → ℕ × ℕ → List ℕ → Read C.Counts
-last_count p l e s = count_at s e.1 (ascii "measures=") >>= λ m. Some (record { points = p; lines = l; equations = e.0; measures = m.0 }, m.1)
+last_count p l e s = count_at s e.1 (ascii "measures=") >>= λ m. Ok (record { points = p; lines = l; equations = e.0; measures = m.0 }, m.1)
 
 abbrev last_counts : ℕ → ℕ × ℕ → List ℕ → Read C.Counts
 last_counts p l s = count_at s l.1 (ascii "equations=") >>= λ e. last_count p l.0 e s
@@ -66,7 +66,7 @@ pub record RestFits (n : Counts) (j : Job) : Type 0 where
 -- its parts one after another
 module _ (n : Counts) where
   abbrev measures_on : Vec2 → Float → List Point → List Line → List Active × ℕ → List ℕ → Read Build
-  measures_on v z p l e s = items_at measure_line n.measures s e.1 >>= λ m. Some (sample v z p l e.0 m.0, m.1)
+  measures_on v z p l e s = items_at measure_line n.measures s e.1 >>= λ m. Ok (sample v z p l e.0 m.0, m.1)
 
   abbrev equations_on : Vec2 → Float → List Point → List Line × ℕ → List ℕ → Read Build
   equations_on v z p l s = items_at equation_line n.equations s l.1 >>= λ e. measures_on v z p l.0 e s

@@ -4,7 +4,7 @@ use mathlib.Core.Bool.{true}
 use mathlib.Core.List.{List, ◌++◌, append_assoc}
 use mathlib.Core.Logic.{◌⊎◌, inl, inr}
 use mathlib.Core.Path.{◌≡◌, refl}
-use Rattle.std.proofs.Common.{Some}
+use Rattle.std.proofs.Common.{Ok}
 use Rattle.phrases.specs.Fields.{number_at, value_at, vec_at}
 use Rattle.sketch.specs.Made.{point_no}
 use Rattle.sketch.specs.declared.State.{State}
@@ -23,7 +23,7 @@ use Rattle.grammar.proofs.KindForms.{equation-reads, measure-reads}
 pub place-reads : Reads place_text PlaceFits vec_of vec_at anything
 unfolding vec_at
 place-reads =
-    as-reads (then-reads (λ x s. value_at s x.1 >>= λ y. Some (record { x = x.0; y = y.0 }, y.1)) float-reads (λ a. mean-reads (λ y. record { x = float_of a; y = y }) value-reads) (λ a b t h. refl))
+    as-reads (then-reads (λ x s. value_at s x.1 >>= λ y. Ok (record { x = x.0; y = y.0 }, y.1)) float-reads (λ a. mean-reads (λ y. record { x = float_of a; y = y }) value-reads) (λ a b t h. refl))
     (λ p. record { x = p.0; y = p.1 }) (λ p. (p.x, p.y)) (λ b. refl) (λ a. simp append_assoc) (λ a. refl) (λ b h. h) (λ a h. h)
 
 -- A standing: one of three words, and after the last a place.
@@ -52,24 +52,24 @@ newline t = refl
 -- A line that holds one thing: a key, the thing, and a newline.
 pub line-reads : {A M N : Type 0} {text : A → List ℕ} {fit : A → Type 0} {mean : A → M} {read : List ℕ → ℕ → Read M} (key : List ℕ) (f : M → N)
     → Reads text fit mean read parted
-    → Reads (λ a. key ++ (text a ++ ascii "\n")) fit (λ a. f (mean a)) (λ s at. word_of s at key >>= λ k. read s k >>= λ r. eat_of s r.1 10 >>= λ end. Some (f r.0, end)) anything
+    → Reads (λ a. key ++ (text a ++ ascii "\n")) fit (λ a. f (mean a)) (λ s at. word_of s at key >>= λ k. read s k >>= λ r. eat_of s r.1 10 >>= λ end. Ok (f r.0, end)) anything
 line-reads {mean = mean} {read = read} key f r =
-    as-reads (after-word (then-reads (λ r s. eat_of s r.1 10 >>= λ end. Some (f r.0, end)) r (λ a. after-byte (done-reads (f (mean a)) anything) 10) (λ a b t h. refl)) key)
+    as-reads (after-word (then-reads (λ r s. eat_of s r.1 10 >>= λ end. Ok (f r.0, end)) r (λ a. after-byte (done-reads (f (mean a)) anything) 10) (λ a b t h. refl)) key)
     (λ p. p.0) (λ a. (a, tt)) (λ b. refl) (λ a. refl) (λ a. refl) (λ b h. (h, tt)) (λ a h. h.0)
 
 pub point-reads : Reads point_line_text PointFits point_of point_line anything
 unfolding point_line
 point-reads =
-    as-reads (after-word (then-reads (λ v s. state_at s v.1 >>= λ t. eat_of s t.1 10 >>= λ end. Some (record { start = v.0; state = t.0 }, end)) place-reads
-    (λ p. then-reads (λ t s. eat_of s t.1 10 >>= λ end. Some (record { start = vec_of p; state = t.0 }, end)) standing-reads (λ k. after-byte (done-reads (record { start = vec_of p; state = state_of k }) anything) 10) (λ a b t h. refl))
+    as-reads (after-word (then-reads (λ v s. state_at s v.1 >>= λ t. eat_of s t.1 10 >>= λ end. Ok (record { start = v.0; state = t.0 }, end)) place-reads
+    (λ p. then-reads (λ t s. eat_of s t.1 10 >>= λ end. Ok (record { start = vec_of p; state = t.0 }, end)) standing-reads (λ k. after-byte (done-reads (record { start = vec_of p; state = state_of k }) anything) 10) (λ a b t h. refl))
     (λ a b t h. refl)) (ascii "p="))
     (λ p. record { start = p.0; standing = p.1.0 }) (λ p. (p.start, (p.standing, tt))) (λ b. refl) (λ a. simp append_assoc) (λ a. refl) (λ b h. (h.0, (h.1, tt))) (λ a h. (h.0, h.1.0))
 
 pub line_reads : Reads line_line_text LineFits line_of line_line anything
 unfolding line_line
 line_reads =
-    as-reads (after-word (then-reads (λ m s. number_at s m.1 >>= λ n. eat_of s n.1 10 >>= λ end. Some (record { from = point_no m.0; to = point_no n.0 }, end)) whole-reads
-    (λ m. then-reads (λ n s. eat_of s n.1 10 >>= λ end. Some (record { from = point_no m; to = point_no n.0 }, end)) number-reads (λ n. after-byte (done-reads (record { from = point_no m; to = point_no n }) anything) 10) (λ a b t h. refl))
+    as-reads (after-word (then-reads (λ m s. number_at s m.1 >>= λ n. eat_of s n.1 10 >>= λ end. Ok (record { from = point_no m.0; to = point_no n.0 }, end)) whole-reads
+    (λ m. then-reads (λ n s. eat_of s n.1 10 >>= λ end. Ok (record { from = point_no m; to = point_no n.0 }, end)) number-reads (λ n. after-byte (done-reads (record { from = point_no m; to = point_no n }) anything) 10) (λ a b t h. refl))
     (λ a b t h. refl)) (ascii "l="))
     (λ p. record { from = p.0; to = p.1.0 }) (λ p. (p.from, (p.to, tt))) (λ b. refl) (λ a. simp append_assoc) (λ a. refl) (λ b h. (h.0, (h.1, tt))) (λ a h. (h.0, h.1.0))
 

@@ -9,10 +9,10 @@ use native.Mathlib.Omega.{arith}
 use borrow.Author.Tests.{lt-ltb, le-ltb, ltb-true, ltb-false, eq-eqb, eqb-true}
 use lib.Dec.{eqb}
 use lib.ListN.{length, length-drop}
-use Rattle.std.proofs.Common.{Option, Some, None, Result, Ok, Err, if◌then◌else◌}
+use Rattle.std.proofs.Common.{Result, Ok, Err, if◌then◌else◌}
 use Rattle.sketch.specs.declared.Build.{Build}
 use Rattle.sketch.specs.declared.Ending.{Ending}
-use Rattle.spelling.proofs.Steps.{Here, begin, never, some-is, not-both}
+use Rattle.spelling.proofs.Steps.{Here, begin, never, ok-is, not-ok}
 use Rattle.spelling.specs.Places.{Read}
 use Rattle.text.proofs.Given.{reads-exactly}
 use Rattle.text.proofs.Rest.{within}
@@ -68,28 +68,28 @@ fits-of n j p h = record {
 }
 
 -- what the reader's tests found
-counted : (o : Read C.Counts) → over_counts o ≡ true → (r : C.Counts × ℕ) × (o ≡ Some r) × (over r.0 ≡ true)
-counted None h = absurd (never _ refl h)
-counted (Some r) h = (r, refl, h)
+counted : (o : Read C.Counts) → over_counts o ≡ true → (r : C.Counts × ℕ) × (o ≡ Ok r) × (over r.0 ≡ true)
+counted (Err e) h = absurd (never _ refl h)
+counted (Ok r) h = (r, refl, h)
 
 module _ (s : List ℕ) where
-  at-end : (o : Read Build) (b : Build) → ended s o ≡ Some b → o ≡ Some (b, length s)
-  at-end None b h = absurd (not-both h)
-  at-end (Some r) b h = go (eqb r.1 (length s)) refl h
+  at-end : (o : Read Build) (b : Build) → ended s o ≡ Ok b → o ≡ Ok (b, length s)
+  at-end (Err e) b h = absurd (not-ok h)
+  at-end (Ok r) b h = go (eqb r.1 (length s)) refl h
     where
-      go : (q : Bool) → eqb r.1 (length s) ≡ q → (if q then Some r.0 else None) ≡ Some b → ◌≡◌ {A = Read Build} (Some r) (Some (b, length s))
-      go true e k = λ t. Some (some-is k t, eqb-true r.1 (length s) e t)
-      go false e k = absurd (not-both k)
+      go : (q : Bool) → eqb r.1 (length s) ≡ q → (if q then Ok r.0 else Err r.1) ≡ Ok b → ◌≡◌ {A = Read Build} (Ok r) (Ok (b, length s))
+      go true e k = λ t. Ok (ok-is k t, eqb-true r.1 (length s) e t)
+      go false e k = absurd (not-ok k)
 
-  built : (o : Read C.Counts) (b : Build) → build_at s o ≡ Some b → (r : C.Counts × ℕ) × (o ≡ Some r) × (rest_at r.0 s r.1 ≡ Some (b, length s))
-  built None b h = absurd (not-both h)
-  built (Some r) b h = (r, refl, at-end (rest_at r.0 s r.1) b h)
+  built : (o : Read C.Counts) (b : Build) → build_at s o ≡ Ok b → (r : C.Counts × ℕ) × (o ≡ Ok r) × (rest_at r.0 s r.1 ≡ Ok (b, length s))
+  built (Err e) b h = absurd (not-ok h)
+  built (Ok r) b h = (r, refl, at-end (rest_at r.0 s r.1) b h)
 
   -- a text that begins with count lines is read so far with these counts, and the other way about
-  counts-forward : (n : Counts) (t : List ℕ) → CountsFit n → s ≡ counts_text n ++ t → (i : ℕ) × (counts_at s 0 ≡ Some (given_counts n, i)) × Here s i t
+  counts-forward : (n : Counts) (t : List ℕ) → CountsFit n → s ≡ counts_text n ++ t → (i : ℕ) × (counts_at s 0 ≡ Ok (given_counts n, i)) × Here s i t
   counts-forward n t p e = counts-reads.forward s 0 n t p refl (subst (λ (l : List ℕ). Here s 0 l) e (begin s))
 
-  counts-backward : (r : C.Counts × ℕ) → counts_at s 0 ≡ Some r → (n : Counts) × (t : List ℕ) × CountsFit n × (given_counts n ≡ r.0) × (s ≡ counts_text n ++ t) × Here s r.1 t
+  counts-backward : (r : C.Counts × ℕ) → counts_at s 0 ≡ Ok r → (n : Counts) × (t : List ℕ) × CountsFit n × (given_counts n ≡ r.0) × (s ≡ counts_text n ++ t) × Here s r.1 t
   counts-backward r e = counts-reads.backward s 0 s r.0 r.1 (begin s) e
 
   -- 3
@@ -105,11 +105,11 @@ module _ (s : List ℕ) where
       (ap bad_counts f.1, ap over_counts f.1 ∙ exceeding x.counts x.over)
 
   -- what was read is a job that this is the text of
-  writes : (b : Build) → over_counts (counts_at s 0) ≡ false → build_at s (counts_at s 0) ≡ Some b → (j : Job) × Writes s j × (b ≡ build_of j)
+  writes : (b : Build) → over_counts (counts_at s 0) ≡ false → build_at s (counts_at s 0) ≡ Ok b → (j : Job) × Writes s j × (b ≡ build_of j)
   writes b o h =
       let c = built (counts_at s 0) b h in
       let f = counts-backward c.0 c.1 in
-      let e : rest_at (given_counts f.0) s c.0.1 ≡ Some (b, length s) = subst (λ (n : C.Counts). rest_at n s c.0.1 ≡ Some (b, length s)) (sym f.3) c.2 in
+      let e : rest_at (given_counts f.0) s c.0.1 ≡ Ok (b, length s) = subst (λ (n : C.Counts). rest_at n s c.0.1 ≡ Ok (b, length s)) (sym f.3) c.2 in
       let g = (rest-reads f.0).backward s c.0.1 f.1 b (length s) f.5 e in
       let j = g.0 in
       let m : counts_of j ≡ f.0 = counts-of f.0 j g.2 in
@@ -125,7 +125,7 @@ module _ (s : List ℕ) where
       )
 
   -- a text of a job is read, and as that job
-  written : (j : Job) → Writes s j → (bad_counts (counts_at s 0) ≡ false) × (over_counts (counts_at s 0) ≡ false) × (build_at s (counts_at s 0) ≡ Some (build_of j))
+  written : (j : Job) → Writes s j → (bad_counts (counts_at s 0) ≡ false) × (over_counts (counts_at s 0) ≡ false) × (build_at s (counts_at s 0) ≡ Ok (build_of j))
   written j w =
       let n = counts_of j in
       let f = counts-forward n (rest_text j) w.fits.counts w.text in
@@ -151,16 +151,16 @@ module _ (s : List ℕ) where
   whole : (b : Build) → read_of s ≡ Ok b ↔ (length s ≤ 16384) × ((j : Job) × Writes s j × (b ≡ build_of j))
   whole b = (
     λ h. let e = ((reads-exactly s).whole b).0 h in (long e.0, writes b e.2 e.3),
-    λ h. let w = written h.1.0 h.1.1 in ((reads-exactly s).whole b).1 (not-long h.0, w.0, w.1, w.2 ∙ ap Some (sym h.1.2)),
+    λ h. let w = written h.1.0 h.1.1 in ((reads-exactly s).whole b).1 (not-long h.0, w.0, w.1, w.2 ∙ ap Ok (sym h.1.2)),
   )
 
 -- one of the four
-one_of : (t c o : Bool) (b : Option Build) (P : Result Build Ending → Type 0) → P (Err Ending.TooLong) → P (Err Ending.BadForm) → P (Err Ending.TooMany) → ((r : Build) → P (Ok r)) → P (judged t c o b)
+one_of : (t c o : Bool) (b : Result Build ℕ) (P : Result Build Ending → Type 0) → P (Err Ending.TooLong) → P (Err Ending.BadForm) → P (Err Ending.TooMany) → ((r : Build) → P (Ok r)) → P (judged t c o b)
 one_of true c o b P p q v w = p
 one_of false true o b P p q v w = q
 one_of false false true b P p q v w = v
-one_of false false false None P p q v w = q
-one_of false false false (Some r) P p q v w = w r
+one_of false false false (Err e) P p q v w = q
+one_of false false false (Ok r) P p q v w = w r
 
 form-many : ◌≡◌ {A = Result Build Ending} (Err Ending.BadForm) (Err Ending.TooMany) → ⊥
 form-many h = cc

@@ -12,6 +12,17 @@ fn divide(row: &mut [f64], len: f64)
     }
 }
 
+// By index: `copy_from_slice` becomes a call of `memmove` here, and the libraries for C ask of the C library for `memcpy` and `memset` alone
+// (bindings/c/sakiromuk.h).
+fn copy(row: &[f64], to: &mut [f64])
+    requires { length to.old ≡ length row.now }
+    ensures { to.new ≡ row.now }
+{
+    for i in 0..row.len() {
+        to[i] = row[i];
+    }
+}
+
 // Only a length above zero divides.
 #[tactic(auto, unfolding(crate::specs::Steps::unit_of, crate::specs::Steps::scaled_by))]
 fn unit_row(row: &[f64], to: &mut [f64])
@@ -19,7 +30,7 @@ fn unit_row(row: &[f64], to: &mut [f64])
     ensures { to.new ≡ unit_of row.now }
 {
     let len = root::sqrt(solver::norm2(row));
-    to.copy_from_slice(row);
+    copy(row, to);
     if len > 0.0 {
         divide(to, len);
     }

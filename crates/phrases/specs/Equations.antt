@@ -1,5 +1,5 @@
 -- Equations: a kind's name, and then its fields by the table.
-use Rattle.std.specs.Prelude.{List, ℕ, Some}
+use Rattle.std.specs.Prelude.{List, ℕ, Ok}
 use Rattle.sketch.specs.Kinds.{fields_of}
 use Rattle.sketch.specs.Made.{equation_of}
 use Rattle.sketch.specs.declared.Equation.{Equation}
@@ -12,7 +12,7 @@ use Rattle.phrases.specs.Kinds.{kind_at}
 abbrev pub row_equation : Kind → List ℕ → ℕ → Read Equation
 row_equation k s at = do
   m ← row_at (fields_of k) s at
-  Some (equation_of k m.0, m.1)
+  Ok (equation_of k m.0, m.1)
 
 unfoldable pub fields_at : Kind → List ℕ → ℕ → Read Equation
 fields_at Kind.Coincident = row_equation Kind.Coincident

@@ -1,5 +1,6 @@
 -- The fields of equations and measures, each with the comma in front of it (the byte 44).
-use Rattle.std.specs.Prelude.{List, [], ◌∷◌, ℕ, Float, Option, Some, option_map}
+use Rattle.std.specs.Prelude.{List, [], ◌∷◌, ℕ, Float, Result, Ok}
+use Rattle.std.specs.Result.{result_map_both}
 use Rattle.std.specs.Float.Ieee.{neg}
 use Rattle.floats.specs.Ops.{one}
 use Rattle.plane.specs.declared.Vec2.{Vec2}
@@ -11,12 +12,12 @@ use Rattle.sketch.specs.declared.PointNo.{PointNo}
 use Rattle.sketch.specs.declared.Rad.{Rad}
 use Rattle.spelling.specs.Floating.{float_at}
 use Rattle.spelling.specs.Letters.{ascii}
-use Rattle.spelling.specs.Places.{Read, ◌>>=◌, if_some, eat_of, word_of}
+use Rattle.spelling.specs.Places.{Read, ◌>>=◌, if_ok, eat_of, word_of}
 use Rattle.spelling.specs.Wholes.{whole_at}
 
 -- what was read at a place that was moved on, with that place
-abbrev pub with_place : {A : Type 0} → Option A → ℕ → Read A
-with_place o next = option_map (λ a. (a, next)) o
+abbrev pub with_place : {A : Type 0} → Result A ℕ → ℕ → Read A
+with_place o next = result_map_both (λ a. (a, next)) (λ e. e) o
 
 -- a point's or a line's number
 unfoldable pub number_at : List ℕ → ℕ → Read ℕ
@@ -27,21 +28,21 @@ number_at s at = do
 unfoldable pub point_at : List ℕ → ℕ → Read PointNo
 point_at s at = do
   n ← number_at s at
-  Some (point_no n.0, n.1)
+  Ok (point_no n.0, n.1)
 
 unfoldable pub line_at : List ℕ → ℕ → Read LineNo
 line_at s at = do
   n ← number_at s at
-  Some (line_no n.0, n.1)
+  Ok (line_no n.0, n.1)
 
 unfoldable pub value_at : List ℕ → ℕ → Read Float
 value_at s at = do
   n ← eat_of s at 44
   float_at s n
 
--- one of two words, and what it stands for
+-- one of two words, and what it stands for; where neither stands there, the place at which the second one fails
 abbrev pub either_at : {A : Type 0} → List ℕ → ℕ → List ℕ → A → List ℕ → A → Read A
-either_at s at v a w b = if_some (word_of s at v) (λ n. Some (a, n)) (word_of s at w >>= λ n. Some (b, n))
+either_at s at v a w b = if_ok (word_of s at v) (λ n. Ok (a, n)) (λ _. word_of s at w >>= λ n. Ok (b, n))
 
 -- x is 0 and y is 1
 unfoldable pub axis_at : List ℕ → ℕ → Read ℕ
@@ -54,20 +55,20 @@ side_at s at = either_at s at (ascii ",+") one (ascii ",-") (neg one)
 -- p and a point, or v and a float
 unfoldable pub rad_at : List ℕ → ℕ → Read Rad
 rad_at s at =
-    if_some (word_of s at (ascii ",p"))
-    (λ n. point_at s n >>= λ p. Some (Rad.Point p.0, p.1))
-    (word_of s at (ascii ",v") >>= λ n. value_at s n >>= λ v. Some (Rad.Value v.0, v.1))
+    if_ok (word_of s at (ascii ",p"))
+    (λ n. point_at s n >>= λ p. Ok (Rad.Point p.0, p.1))
+    (λ _. word_of s at (ascii ",v") >>= λ n. value_at s n >>= λ v. Ok (Rad.Value v.0, v.1))
 
 -- o is outside, a sign is inside
 unfoldable pub contact_at : List ℕ → ℕ → Read Contact
-contact_at s at = if_some (word_of s at (ascii ",o")) (λ n. Some (Contact.Outside, n)) (side_at s at >>= λ k. Some (Contact.Inside k.0, k.1))
+contact_at s at = if_ok (word_of s at (ascii ",o")) (λ n. Ok (Contact.Outside, n)) (λ _. side_at s at >>= λ k. Ok (Contact.Inside k.0, k.1))
 
 -- two floats; in front of the first there is no comma
 unfoldable pub vec_at : List ℕ → ℕ → Read Vec2
 vec_at s at = do
   x ← float_at s at
   y ← value_at s x.1
-  Some (record { x = x.0; y = y.0 }, y.1)
+  Ok (record { x = x.0; y = y.0 }, y.1)
 
 -- A field by its sort, and the fields of a row one after another.
 abbrev pub field_at : (f : Sort) → List ℕ → ℕ → Read (Stands f)
@@ -80,8 +81,8 @@ field_at Sort.Radius = rad_at
 field_at Sort.Contact = contact_at
 
 abbrev pub row_at : (l : List Sort) → List ℕ → ℕ → Read (Row l)
-row_at [] s at = Some (tt, at)
+row_at [] s at = Ok (tt, at)
 row_at (f ∷ l) s at = do
   v ← field_at f s at
   m ← row_at l s v.1
-  Some ((v.0, m.0), m.1)
+  Ok ((v.0, m.0), m.1)

@@ -1,5 +1,5 @@
 -- Measures: the name of a kind that is measured, and then its fields without the value.
-use Rattle.std.specs.Prelude.{List, ℕ, Some}
+use Rattle.std.specs.Prelude.{List, ℕ, Ok}
 use Rattle.sketch.specs.Kinds.{measured_fields}
 use Rattle.sketch.specs.Made.{measure_of}
 use Rattle.sketch.specs.declared.Gauge.{Gauge}
@@ -12,7 +12,7 @@ use Rattle.phrases.specs.Kinds.{gauge_at}
 abbrev pub row_measure : Gauge → List ℕ → ℕ → Read Measure
 row_measure g s at = do
   m ← row_at (measured_fields g) s at
-  Some (measure_of g m.0, m.1)
+  Ok (measure_of g m.0, m.1)
 
 unfoldable pub gauged_at : Gauge → List ℕ → ℕ → Read Measure
 gauged_at Gauge.Distance = row_measure Gauge.Distance

@@ -8,7 +8,7 @@ use spelling::{eat, float, whole, word};
 
 // A point's or a line's number.
 #[tactic(auto, unfolding(crate::specs::Fields::number_at))]
-pub fn number(s: &[u8], at: usize) -> Option<(usize, usize)>
+pub fn number(s: &[u8], at: usize) -> Result<(usize, usize), usize>
     ensures { result ≡ number_at s.now at }
 {
     whole(s, eat(s, at, b',')?)
@@ -16,64 +16,64 @@ pub fn number(s: &[u8], at: usize) -> Option<(usize, usize)>
 
 // Two floats; in front of the first there is no comma.
 #[tactic(auto, unfolding(crate::specs::Fields::vec_at, crate::specs::Fields::value_at))]
-pub fn vec(s: &[u8], at: usize) -> Option<(Vec2, usize)>
+pub fn vec(s: &[u8], at: usize) -> Result<(Vec2, usize), usize>
     ensures { result ≡ vec_at s.now at }
 {
     let (x, at) = float(s, at)?;
     let (y, at) = float(s, eat(s, at, b',')?)?;
-    Some((Vec2 { x, y }, at))
+    Ok((Vec2 { x, y }, at))
 }
 
 // What follows reads at a place that it moves on, so that the fields of a kind stand in its constructor.
 
 #[tactic(auto, unfolding(crate::specs::Fields::point_at))]
-pub(crate) fn point(s: &[u8], at: &mut usize) -> Option<PointNo>
+pub(crate) fn point(s: &[u8], at: &mut usize) -> Result<PointNo, usize>
     ensures { with_place result at.new ≡ point_at s.now at.old }
 {
     let (n, next) = number(s, *at)?;
     *at = next;
-    Some(PointNo(n))
+    Ok(PointNo(n))
 }
 
 #[tactic(auto, unfolding(crate::specs::Fields::line_at))]
-pub(crate) fn line(s: &[u8], at: &mut usize) -> Option<LineNo>
+pub(crate) fn line(s: &[u8], at: &mut usize) -> Result<LineNo, usize>
     ensures { with_place result at.new ≡ line_at s.now at.old }
 {
     let (n, next) = number(s, *at)?;
     *at = next;
-    Some(LineNo(n))
+    Ok(LineNo(n))
 }
 
 #[tactic(auto, unfolding(crate::specs::Fields::value_at))]
-pub(crate) fn value(s: &[u8], at: &mut usize) -> Option<f64>
+pub(crate) fn value(s: &[u8], at: &mut usize) -> Result<f64, usize>
     ensures { with_place result at.new ≡ value_at s.now at.old }
 {
     let (v, next) = float(s, eat(s, *at, b',')?)?;
     *at = next;
-    Some(v)
+    Ok(v)
 }
 
 // One of two words, and what it stands for.
-fn either<T: Copy>(s: &[u8], at: &mut usize, v: &[u8], a: T, w: &[u8], b: T) -> Option<T>
+fn either<T: Copy>(s: &[u8], at: &mut usize, v: &[u8], a: T, w: &[u8], b: T) -> Result<T, usize>
     ensures { with_place result at.new ≡ either_at s.now at.old v.now a w.now b }
 {
-    if let Some(next) = word(s, *at, v) {
+    if let Ok(next) = word(s, *at, v) {
         *at = next;
-        return Some(a);
+        return Ok(a);
     }
     *at = word(s, *at, w)?;
-    Some(b)
+    Ok(b)
 }
 
 #[tactic(auto, unfolding(crate::specs::Fields::axis_at))]
-pub(crate) fn axis(s: &[u8], at: &mut usize) -> Option<usize>
+pub(crate) fn axis(s: &[u8], at: &mut usize) -> Result<usize, usize>
     ensures { with_place result at.new ≡ axis_at s.now at.old }
 {
     either(s, at, b",x", 0, b",y", 1)
 }
 
 #[tactic(auto, unfolding(crate::specs::Fields::side_at))]
-pub(crate) fn side(s: &[u8], at: &mut usize) -> Option<f64>
+pub(crate) fn side(s: &[u8], at: &mut usize) -> Result<f64, usize>
     ensures { with_place result at.new ≡ side_at s.now at.old }
 {
     either(s, at, b",+", 1.0, b",-", -1.0)
@@ -81,24 +81,24 @@ pub(crate) fn side(s: &[u8], at: &mut usize) -> Option<f64>
 
 // A radius by a point, or a plain one.
 #[tactic(auto, unfolding(crate::specs::Fields::rad_at))]
-pub(crate) fn rad(s: &[u8], at: &mut usize) -> Option<Rad>
+pub(crate) fn rad(s: &[u8], at: &mut usize) -> Result<Rad, usize>
     ensures { with_place result at.new ≡ rad_at s.now at.old }
 {
-    if let Some(next) = word(s, *at, b",p") {
+    if let Ok(next) = word(s, *at, b",p") {
         *at = next;
-        return Some(Rad::Point(point(s, at)?));
+        return Ok(Rad::Point(point(s, at)?));
     }
     *at = word(s, *at, b",v")?;
-    Some(Rad::Value(value(s, at)?))
+    Ok(Rad::Value(value(s, at)?))
 }
 
 #[tactic(auto, unfolding(crate::specs::Fields::contact_at))]
-pub(crate) fn contact(s: &[u8], at: &mut usize) -> Option<Contact>
+pub(crate) fn contact(s: &[u8], at: &mut usize) -> Result<Contact, usize>
     ensures { with_place result at.new ≡ contact_at s.now at.old }
 {
-    if let Some(next) = word(s, *at, b",o") {
+    if let Ok(next) = word(s, *at, b",o") {
         *at = next;
-        return Some(Contact::Outside);
+        return Ok(Contact::Outside);
     }
-    Some(Contact::Inside(side(s, at)?))
+    Ok(Contact::Inside(side(s, at)?))
 }

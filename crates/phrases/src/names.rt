@@ -60,21 +60,23 @@ impl Named for Gauge {
     }
 }
 
-// The first of all whose name stands there.
-#[tactic(auto, unfolding(spelling::specs::Places::named))]
-fn by_name<K: Named>(s: &[u8], at: usize, all: &[K]) -> Option<(K, usize)>
+// The first of all whose name stands there; where none does, the place at which the last one's name fails.
+#[tactic(auto, unfolding(spelling::specs::Places::named_or))]
+fn by_name<K: Named>(s: &[u8], at: usize, all: &[K]) -> Result<(K, usize), usize>
     ensures { result ≡ named K.spelled s.now at all.now }
 {
+    let mut failed = at;
     for k in all {
-        if let Some(next) = word(s, at, k.name()) {
-            return Some((*k, next));
+        match word(s, at, k.name()) {
+            Ok(next) => return Ok((*k, next)),
+            Err(place) => failed = place,
         }
     }
-    None
+    Err(failed)
 }
 
 // The longer of two names with one beginning is tried first.
-pub(crate) fn kind(s: &[u8], at: usize) -> Option<(Kind, usize)>
+pub(crate) fn kind(s: &[u8], at: usize) -> Result<(Kind, usize), usize>
     ensures { result ≡ kind_at s.now at }
 {
     let kinds = [
@@ -103,7 +105,7 @@ pub(crate) fn kind(s: &[u8], at: usize) -> Option<(Kind, usize)>
     by_name(s, at, &kinds)
 }
 
-pub(crate) fn gauge(s: &[u8], at: usize) -> Option<(Gauge, usize)>
+pub(crate) fn gauge(s: &[u8], at: usize) -> Result<(Gauge, usize), usize>
     ensures { result ≡ gauge_at s.now at }
 {
     let gauges = [

@@ -1,7 +1,7 @@
 -- The records of a pack one after another, and how many of them hold the reply to their text.
 use Rattle.std.specs.Prelude.{Bool, cond, List, ℕ, ◌+◌, ltb, length}
 use Rattle.loops.specs.Turns.{up_to}
-use Rattle.spelling.specs.Places.{if_some}
+use Rattle.spelling.specs.Places.{if_ok}
 use Rattle.replay.specs.Judged.{answered, same_bytes}
 use Rattle.replay.specs.Records.{part, record_at}
 use Rattle.replay.specs.declared.records.Record.{Record}
@@ -21,7 +21,7 @@ judged_of s r t = counted_of t r.end (same_bytes (answered (part s r.text r.repl
 
 -- where no record stands, nothing is counted
 unfoldable pub turn_of : List ℕ → ℕ → Tally → Tally
-turn_of s i t = if_some (record_at s t.at) (λ r. judged_of s r t) t
+turn_of s i t = if_ok (record_at s t.at) (λ r. judged_of s r t) (λ _. t)
 
 abbrev pub tally_of : List ℕ → Tally
 tally_of s = up_to (length s) 0 (turn_of s) (record { at = 0; same = 0; differ = 0 })

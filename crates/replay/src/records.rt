@@ -30,12 +30,13 @@ fn place(len: usize, at: usize, n: usize, m: usize) -> Option<Record>
     }
 }
 
-// The record that starts at `at`.
+// The record that starts at `at`, or the place at which there is none.
 #[tactic(auto, unfolding(crate::specs::Records::record_at))]
-pub(crate) fn record_at(s: &[u8], at: usize) -> Option<Record>
+pub(crate) fn record_at(s: &[u8], at: usize) -> Result<Record, usize>
     ensures { result ≡ record_at s.now at }
 {
     let (n, at) = whole(s, at)?;
     let (m, at) = whole(s, eat(s, at, b' ')?)?;
-    place(s.len(), eat(s, at, b'\n')?, n, m)
+    let at = eat(s, at, b'\n')?;
+    place(s.len(), at, n, m).ok_or(at)
 }

@@ -66,8 +66,8 @@ fn turn(rt: HostRuntime, s: &[u8], i: usize, t: Tally) -> Tally
     ensures { result ≡ turn_of s.now i t }
 {
     match record_at(s, t.at) {
-        Some(r) => judged(rt, s, i, r, t),
-        None => t,
+        Ok(r) => judged(rt, s, i, r, t),
+        Err(_) => t,
     }
 }
 

@@ -6,7 +6,7 @@ use mathlib.Core.Path.{◌≡◌, refl, ap}
 use native.Mathlib.Decide.{dec_le}
 use native.Mathlib.Numerals.{add-one}
 use native.Mathlib.Omega.{arith}
-use Rattle.std.proofs.Common.{Some, None}
+use Rattle.std.proofs.Common.{Ok, Err}
 use Rattle.std.proofs.Math.Nat.{pow-le-pow_right}
 use Rattle.spelling.specs.Floating.{hex_at, digits_at}
 use borrow.Author.Tests.{lt-ltb, le-ltb}
@@ -49,25 +49,25 @@ unfolding hexadecimal
 hexadecimal-long zero b = refl
 hexadecimal-long (suc k) b = simp length-append (omega (arith, hexadecimal-long k (b / 16)))
 
--- where so many digits are not there, no more are
-pub no-digits : (j : ℕ) (s : List ℕ) (at k : ℕ) → k ≤ j → digits_at k s at ≡ None → digits_at j s at ≡ None
+-- where so many digits are not there, no more are: they fail at the same place
+pub no-digits : (j : ℕ) (s : List ℕ) (at k n : ℕ) → k ≤ j → digits_at k s at ≡ Err n → digits_at j s at ≡ Err n
 unfolding digits_at
-no-digits zero s at k h e = let z : k ≡ 0 = omega arith in rw z at e
-no-digits (suc j) s at k h e = go (dec_le k j) (no-digits j s at k)
+no-digits zero s at k n h e = let z : k ≡ 0 = omega arith in rw z at e
+no-digits (suc j) s at k n h e = go (dec_le k j) (no-digits j s at k n)
   where
-    go : Dec (k ≤ j) → (k ≤ j → digits_at k s at ≡ None → digits_at j s at ≡ None) → digits_at (suc j) s at ≡ None
+    go : Dec (k ≤ j) → (k ≤ j → digits_at k s at ≡ Err n → digits_at j s at ≡ Err n) → digits_at (suc j) s at ≡ Err n
     go (yes p) f = rw (f p e)
     go (no p) f = let z : k ≡ suc j = omega arith in rw z at e
 
-module _ (k : ℕ) (s : List ℕ) (at b n : ℕ) (e : digits_at k s at ≡ Some (b, n)) where
+module _ (k : ℕ) (s : List ℕ) (at b n : ℕ) (e : digits_at k s at ≡ Ok (b, n)) where
   -- a digit more, and where there is none
-  pub digit-more : (d m : ℕ) → hex_at s n ≡ Some (d, m) → digits_at (k + 1) s at ≡ Some (16 * b + d, m)
+  pub digit-more : (d m : ℕ) → hex_at s n ≡ Ok (d, m) → digits_at (k + 1) s at ≡ Ok (16 * b + d, m)
   unfolding digits_at
   digit-more d m h = rw (add-one, e, h)
 
-  pub digit-not : k < 16 → hex_at s n ≡ None → digits_at 16 s at ≡ None
+  pub digit-not : (m : ℕ) → k < 16 → hex_at s n ≡ Err m → digits_at 16 s at ≡ Err m
   unfolding digits_at
-  digit-not l h = no-digits 16 s at (suc k) (omega arith) (rw (e, h))
+  digit-not m l h = no-digits 16 s at (suc k) m (omega arith) (rw (e, h))
 
 -- so many digits fit
 pub digits-fit : (k b d : ℕ) → k < 16 → b < 16 ^ k → d < 16 → (16 * b + d < 2 ^ 64) × (16 * b + d < 16 ^ (k + 1))

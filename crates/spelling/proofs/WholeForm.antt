@@ -7,13 +7,13 @@ use native.Mathlib.Decide.{dec_le}
 use native.Mathlib.Omega.{arith}
 use borrow.Author.Tests.{ltb-true, ltb-false, le-leb, leb-true, eqb-true}
 use lib.Dec.{ltb, leb, eqb}
-use Rattle.std.proofs.Common.{Some, None, if◌then◌else◌, slice_get}
-use Rattle.spelling.specs.Places.{Read}
+use Rattle.std.proofs.Common.{Some, None, Ok, Err, ok_or, if◌then◌else◌, slice_get}
+use Rattle.spelling.specs.Places.{Read, byte_at}
 use Rattle.spelling.specs.Wholes.{digit_of, digit_at, longer, more_of, more_digits, whole_at}
 use Rattle.spelling.specs.Printed.{decimal, whole_text}
 use Rattle.spelling.proofs.Digits.{decimal-last, decimal-more}
 use Rattle.spelling.proofs.Forms.{Reads, parted, read_same, single-of}
-use Rattle.spelling.proofs.Steps.{Here, never, some-is, not-both, bound, byte-forward, byte-backward}
+use Rattle.spelling.proofs.Steps.{Here, never, some-is, not-both, was-some, bound, byte-forward, byte-backward}
 
 digit-of : (d : ℕ) → d < 10 → digit_of (48 + d) ≡ Some d
 unfolding digit_of
@@ -44,22 +44,22 @@ decimal-next k v d h p =
     rw (decimal-last k (10 * v + d) (omega arith), front, last)
 
 module _ (s : List ℕ) where
-  digit-forward : (d at : ℕ) (t : List ℕ) → d < 10 → Here s at ((48 + d) ∷ t) → (digit_at s at ≡ Some (d, at + 1)) × Here s (at + 1) t
+  digit-forward : (d at : ℕ) (t : List ℕ) → d < 10 → Here s at ((48 + d) ∷ t) → (digit_at s at ≡ Ok (d, at + 1)) × Here s (at + 1) t
   unfolding digit_at
   digit-forward d at t l h = let f = byte-forward s at (48 + d) t h in (rw (f.0, digit-of d l), f.1)
 
-  digit-backward : (d n at : ℕ) (t : List ℕ) → Here s at t → digit_at s at ≡ Some (d, n) → (u : List ℕ) × (d < 10) × (t ≡ (48 + d) ∷ u) × Here s n u
+  digit-backward : (d n at : ℕ) (t : List ℕ) → Here s at t → digit_at s at ≡ Ok (d, n) → (u : List ℕ) × (d < 10) × (t ≡ (48 + d) ∷ u) × Here s n u
   unfolding digit_at
   digit-backward d n at t h k =
-      let b = bound (slice_get s at) _ _ k in
-      let e = bound (digit_of b.0) _ _ b.2 in
+      let b = bound (byte_at s at) _ _ k in
+      let e = bound (ok_or (digit_of b.0) at) _ _ b.2 in
       let r = read_same e.2 in
-      let i = digit-is b.0 e.0 e.1 in
-      let f = byte-backward s at b.0 t h b.1 in
+      let i = digit-is b.0 e.0 (was-some (digit_of b.0) at e.0 e.1) in
+      let f = byte-backward s at b.0 t h (was-some (slice_get s at) at b.0 b.1) in
       (f.0, omega (arith, i.0, r.0), f.1 ∙ ap (λ x. x ∷ f.0) (i.1 ∙ ap (λ x. 48 + x) r.0), subst (λ (x : ℕ). Here s x f.0) r.1 f.2)
 
   -- a comma or a newline is no digit
-  no_digit : (at : ℕ) (t : List ℕ) → parted t ≡ true → Here s at t → digit_at s at ≡ None
+  no_digit : (at : ℕ) (t : List ℕ) → parted t ≡ true → Here s at t → digit_at s at ≡ Err at
   unfolding digit_at digit_of
   no_digit at [] p h = absurd (never _ refl p)
   no_digit at (x ∷ t) p h = rw ((byte-forward s at x t h).0, go (eqb x 44) (eqb x 10) refl refl p)
@@ -69,11 +69,11 @@ module _ (s : List ℕ) where
       go false true e f q = rw (eqb-true x 10 f)
       go false false e f q = absurd (never _ refl q)
 
-  more-is : (n d : ℕ × ℕ) → digit_at s n.1 ≡ Some d → 1 ≤ n.0 → n.0 ≤ 9999 → more_of s n ≡ (10 * n.0 + d.0, d.1)
+  more-is : (n d : ℕ × ℕ) → digit_at s n.1 ≡ Ok d → 1 ≤ n.0 → n.0 ≤ 9999 → more_of s n ≡ (10 * n.0 + d.0, d.1)
   unfolding more_of
   more-is n d e p q = rw (e, le-leb 1 n.0 p, le-leb n.0 9999 q)
 
-  more-not : (n : ℕ × ℕ) → digit_at s n.1 ≡ None → more_of s n ≡ n
+  more-not : (n : ℕ × ℕ) → digit_at s n.1 ≡ Err n.1 → more_of s n ≡ n
   unfolding more_of
   more-not n e = rw e
 
@@ -89,7 +89,7 @@ module _ (s : List ℕ) where
 
   -- some of the digits were read, and they are n
   Read_so_far : ℕ → ℕ → ℕ → List ℕ → Type 0
-  Read_so_far k n at t = (d : ℕ × ℕ) × (j : ℕ) × (digit_at s at ≡ Some d) × (j ≤ k) × ((more_digits j s d).0 ≡ n) × Here s (more_digits j s d).1 t
+  Read_so_far k n at t = (d : ℕ × ℕ) × (j : ℕ) × (digit_at s at ≡ Ok d) × (j ≤ k) × ((more_digits j s d).0 ≡ n) × Here s (more_digits j s d).1 t
 
   first-digit : (k n at : ℕ) (t : List ℕ) → n < 10 → Here s at (((48 + n) ∷ []) ++ t) → Read_so_far k n at t
   unfolding Read_so_far more_digits
@@ -127,7 +127,7 @@ module _ (s : List ℕ) where
       same : Past (suc k) t r
       same = (q.0, omega (arith, q.1), q.2 ∙ ap (λ l. l ++ q.0) (sym (decimal-more k (suc k) r.0 (omega arith) q.1)), q.3)
 
-      tested : (d : ℕ × ℕ) → digit_at s r.1 ≡ Some d → (a b : Bool) → leb 1 r.0 ≡ a → leb r.0 9999 ≡ b
+      tested : (d : ℕ × ℕ) → digit_at s r.1 ≡ Ok d → (a b : Bool) → leb 1 r.0 ≡ a → leb r.0 9999 ≡ b
           → Past (suc k) t (if a && b then (10 * r.0 + d.0, d.1) else r)
       tested d e true true x y =
           let f = digit-backward d.0 d.1 r.1 q.0 q.3 e in
@@ -139,21 +139,21 @@ module _ (s : List ℕ) where
       tested d e false b x y = same
 
       go : (o : Read ℕ) → digit_at s r.1 ≡ o → Past (suc k) t (longer r o)
-      go None e = same
-      go (Some d) e = tested d e (leb 1 r.0) (leb r.0 9999) refl refl
+      go (Err i) e = same
+      go (Ok d) e = tested d e (leb 1 r.0) (leb r.0 9999) refl refl
 
   digits-backward : (k : ℕ) (r : ℕ × ℕ) (t : List ℕ) → Past 0 t r → Past k t (more_digits k s r)
   unfolding more_digits
   digits-backward zero r t p = p
   digits-backward (suc k) r t p = more-past k (more_digits k s r) t (digits-backward k r t p)
 
-whole-forward : (s : List ℕ) (at n : ℕ) (t : List ℕ) → n < 100000 → parted t ≡ true → Here s at (whole_text n ++ t) → (i : ℕ) × (whole_at s at ≡ Some (n, i)) × Here s i t
+whole-forward : (s : List ℕ) (at n : ℕ) (t : List ℕ) → n < 100000 → parted t ≡ true → Here s at (whole_text n ++ t) → (i : ℕ) × (whole_at s at ≡ Ok (n, i)) × Here s i t
 unfolding whole_at Read_so_far
 whole-forward s at n t h p k =
     let f = digits-forward s 4 n at t h h k in
     let c = more_digits f.1 s f.0 in
     let e : more_digits 4 s f.0 ≡ c = settled s f.0 4 f.1 f.3 (more-not s c (no_digit s c.1 t p f.5)) in
-    (c.1, rw (f.2, e) (ap (λ m. Some (m, c.1)) f.4), f.5)
+    (c.1, rw (f.2, e) (ap (λ m. Ok (m, c.1)) f.4), f.5)
 
 pub whole-reads : Reads whole_text (λ n. n < 100000) (λ n. n) whole_at parted
 unfolding whole_at Past decimal

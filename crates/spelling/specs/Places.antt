@@ -1,35 +1,43 @@
--- Places in a text, as a reader goes from one to the next. A place is the index of the next byte; a reading gives nothing where the text
--- is not as it should be.
-use Rattle.std.specs.Prelude.{List, [], ◌∷◌, ℕ, ◌+◌, eqb, Option, Some, None, option_and_then, slice_get, if◌then◌else◌}
+-- Places in a text, as a reader goes from one to the next. A place is the index of the next byte; a reading gives what it read and the
+-- place after it, or the place at which the text is not as it should be.
+use Rattle.std.specs.Prelude.{List, [], ◌∷◌, ℕ, ◌+◌, eqb, Result, Ok, Err, ok_or, slice_get, if◌then◌else◌}
 
--- what a reading gives: a value and the place after it
+-- what a reading gives: a value and the place after it, or the place at which it failed
 abbrev pub Read : Type 0 → Type 0
-Read A = Option (A × ℕ)
+Read A = Result (A × ℕ) ℕ
 
 -- one step after another, as `?` has it
 infixl 10 ◌>>=◌
-abbrev pub ◌>>=◌ : {A B : Type 0} → Option A → (A → Option B) → Option B
-o >>= f = option_and_then f o
+abbrev pub ◌>>=◌ : {A B E : Type 0} → Result A E → (A → Result B E) → Result B E
+Ok a >>= f = f a
+Err e >>= f = Err e
 
--- the one with what was read, or the other where nothing was, as `if let` has it
-abbrev pub if_some : {A B : Type 0} → Option A → (A → B) → B → B
-if_some None f other = other
-if_some (Some a) f other = f a
+-- the one with what was read, or the other with the place at which the reading failed, as `match` has it
+abbrev pub if_ok : {A B E : Type 0} → Result A E → (A → B) → (E → B) → B
+if_ok (Ok a) f other = f a
+if_ok (Err e) f other = other e
+
+-- the byte that stands there
+abbrev pub byte_at : List ℕ → ℕ → Result ℕ ℕ
+byte_at s at = ok_or (slice_get s at) at
 
 -- past the byte b, which has to stand there
-unfoldable pub eat_of : List ℕ → ℕ → ℕ → Option ℕ
+unfoldable pub eat_of : List ℕ → ℕ → ℕ → Result ℕ ℕ
 eat_of s at b = do
-  x ← slice_get s at
-  if eqb x b then Some (at + 1) else None
+  x ← byte_at s at
+  if eqb x b then Ok (at + 1) else Err at
 
 -- past the word w
-unfoldable pub word_of : List ℕ → ℕ → List ℕ → Option ℕ
-word_of s at [] = Some at
+unfoldable pub word_of : List ℕ → ℕ → List ℕ → Result ℕ ℕ
+word_of s at [] = Ok at
 word_of s at (b ∷ w) = do
   next ← eat_of s at b
   word_of s next w
 
--- the first of several that has its name there, and the place after it
-unfoldable pub named : {K : Type 0} → (K → List ℕ) → List ℕ → ℕ → List K → Read K
-named name s at [] = None
-named name s at (k ∷ l) = if_some (word_of s at (name k)) (λ n. Some (k, n)) (named name s at l)
+-- the first of several that has its name there, and the place after it; where none has, the place at which the last one's name fails
+unfoldable pub named_or : {K : Type 0} → (K → List ℕ) → List ℕ → ℕ → ℕ → List K → Read K
+named_or name s at failed [] = Err failed
+named_or name s at failed (k ∷ l) = if_ok (word_of s at (name k)) (λ n. Ok (k, n)) (λ e. named_or name s at e l)
+
+abbrev pub named : {K : Type 0} → (K → List ℕ) → List ℕ → ℕ → List K → Read K
+named name s at l = named_or name s at at l

@@ -1,8 +1,10 @@
 // Floats: sixteen small hexadecimal digits, which are the float's bits.
-ghost use Rattle.std.specs.Prelude.{◌≡◌, ◌<◌, IfSome};
+ghost use Rattle.std.specs.Prelude.{◌≡◌, ◌<◌, IfSome, IfOk};
 ghost use Rattle.std.specs.Float.{binary64};
 ghost use Rattle.std.specs.Float.Ieee.{of_bits};
 ghost use Rattle.spelling.specs.Floating.{hex_of, hex_at, bits_at, float_at};
+
+use crate::places::byte;
 
 // What a hexadecimal digit stands for.
 #[tactic(auto, unfolding(crate::specs::Floating::hex_of))]
@@ -19,14 +21,14 @@ fn hex_of(b: u8) -> Option<u64>
 
 // The digit that stands there.
 #[tactic(auto, unfolding(crate::specs::Floating::hex_at))]
-fn hex(s: &[u8], at: usize) -> Option<(u64, usize)>
+fn hex(s: &[u8], at: usize) -> Result<(u64, usize), usize>
     ensures value { result ≡ hex_at s.now at }
-    ensures small { IfSome result (λ r. r.0 < 16) }
+    ensures small { IfOk result (λ r. r.0 < 16) }
 {
-    Some((hex_of(*s.get(at)?)?, at + 1))
+    Ok((hex_of(byte(s, at)?).ok_or(at)?, at + 1))
 }
 
-fn bits(s: &[u8], at: usize) -> Option<(u64, usize)>
+fn bits(s: &[u8], at: usize) -> Result<(u64, usize), usize>
     ensures { result ≡ bits_at s.now at }
 {
     let mut bits = 0;
@@ -36,7 +38,7 @@ fn bits(s: &[u8], at: usize) -> Option<(u64, usize)>
         bits = 16 * bits + d;
         next = after;
     }
-    Some((bits, next))
+    Ok((bits, next))
 }
 
 // The float with these bits. A pattern with a full exponent and more is a NaN's, of which there is one.
@@ -50,11 +52,11 @@ fn float_of(bits: u64) -> f64
     }
 }
 
-// The one way to read a float, which gives the place after it too.
+// The one way to read a float, which gives the place after it too; where a digit is missing or wrong, its place.
 #[tactic(auto, unfolding(crate::specs::Floating::float_at))]
-pub fn float(s: &[u8], at: usize) -> Option<(f64, usize)>
+pub fn float(s: &[u8], at: usize) -> Result<(f64, usize), usize>
     ensures { result ≡ float_at s.now at }
 {
     let (bits, next) = bits(s, at)?;
-    Some((float_of(bits), next))
+    Ok((float_of(bits), next))
 }

@@ -1,5 +1,5 @@
 // How the bytes of a text are read: words, whole numbers and floats. Each reading takes the text and a place in it, the index of
-// the next byte, and gives what it read and the place after it, or nothing where the text is not as it should be.
+// the next byte, and gives what it read and the place after it, or the place at which the text is not as it should be.
 
 #![tactic(auto)]
 

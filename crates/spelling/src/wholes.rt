@@ -1,6 +1,8 @@
 // Whole numbers: one to five digits, and no zero in front of others.
-ghost use Rattle.std.specs.Prelude.{◌≡◌, ◌<◌, IfSome};
+ghost use Rattle.std.specs.Prelude.{◌≡◌, ◌<◌, IfSome, IfOk};
 ghost use Rattle.spelling.specs.Wholes.{digit_of, digit_at, more_of, whole_at};
+
+use crate::places::byte;
 
 // What a decimal digit stands for.
 #[tactic(auto, unfolding(crate::specs::Wholes::digit_of))]
@@ -16,11 +18,11 @@ fn digit_of(b: u8) -> Option<usize>
 
 // The digit that stands there.
 #[tactic(auto, unfolding(crate::specs::Wholes::digit_at))]
-fn digit(s: &[u8], at: usize) -> Option<(usize, usize)>
+fn digit(s: &[u8], at: usize) -> Result<(usize, usize), usize>
     ensures value { result ≡ digit_at s.now at }
-    ensures small { IfSome result (λ r. r.0 < 10) }
+    ensures small { IfOk result (λ r. r.0 < 10) }
 {
-    Some((digit_of(*s.get(at)?)?, at + 1))
+    Ok((digit_of(byte(s, at)?).ok_or(at)?, at + 1))
 }
 
 // One digit more, where one stands there. Nothing goes on from 0, nor from five digits.
@@ -29,19 +31,19 @@ fn more(s: &[u8], value: usize, at: usize) -> (usize, usize)
     ensures { result ≡ more_of s.now (value, at) }
 {
     match digit(s, at) {
-        Some((d, next)) if (1 <= value) & (value <= 9999) => (10 * value + d, next),
+        Ok((d, next)) if (1 <= value) & (value <= 9999) => (10 * value + d, next),
         _ => (value, at),
     }
 }
 
-// A whole number, and the place after it.
+// A whole number, and the place after it; where no digit stands there, that place.
 #[tactic(auto, unfolding(crate::specs::Wholes::whole_at))]
-pub fn whole(s: &[u8], at: usize) -> Option<(usize, usize)>
+pub fn whole(s: &[u8], at: usize) -> Result<(usize, usize), usize>
     ensures { result ≡ whole_at s.now at }
 {
     let mut n = digit(s, at)?;
     for _i in 0..4usize {
         n = more(s, n.0, n.1);
     }
-    Some(n)
+    Ok(n)
 }

@@ -4,7 +4,8 @@ use mathlib.Core.List.{List, [], ◌∷◌, ◌++◌, append-nil, append_assoc}
 use mathlib.Core.Path.{◌≡◌, refl, sym, ap, ◌∙◌}
 use native.Mathlib.Omega.{arith}
 use lib.ListN.{length, take, drop, set, replicate}
-use Rattle.std.proofs.Common.{Some, None, option_map}
+use Rattle.std.proofs.Common.{Ok, Err}
+use Rattle.std.specs.Result.{result_map_both}
 use Rattle.std.proofs.lemmas.List.{take_more_set, drop-replicate, take-append-drop, length-take-le}
 use Rattle.sketch.specs.Blank.{filled}
 use Rattle.spelling.specs.Places.{Read, ◌>>=◌}
@@ -15,18 +16,18 @@ module _ {A : Type 0} (line : List ℕ → ℕ → Read A) (s : List ℕ) where
   after_front l r = (l ++ r.0, r.1)
 
   abbrev in_front : A → List A × ℕ → Read (List A)
-  in_front a q = Some (a ∷ q.0, q.1)
+  in_front a q = Ok (a ∷ q.0, q.1)
 
   -- of n items those up to i, and those that are left
   unfoldable pub left : ℕ → List A → ℕ → ℕ → Read (List A)
-  left n l i at = option_map (after_front (take i l)) (items_at line (n - i) s at)
+  left n l i at = result_map_both (after_front (take i l)) (λ e. e) (items_at line (n - i) s at)
 
   one-more : (l : List A) (i : ℕ) (a : A) (o : Read (List A)) → i < length l
-      → option_map (after_front (take i l)) (o >>= in_front a) ≡ option_map (after_front (take (i + 1) (set l i a))) o
-  one-more l i a None h = refl
-  one-more l i a (Some q) h = ap (λ k. Some (k, q.1)) (sym (append_assoc (take i l) (a ∷ []) q.0) ∙ ap (λ k. k ++ q.0) (sym (take_more_set l i a h)))
+      → result_map_both (after_front (take i l)) (λ e. e) (o >>= in_front a) ≡ result_map_both (after_front (take (i + 1) (set l i a))) (λ e. e) o
+  one-more l i a (Err e) h = refl
+  one-more l i a (Ok q) h = ap (λ k. Ok (k, q.1)) (sym (append_assoc (take i l) (a ∷ []) q.0) ∙ ap (λ k. k ++ q.0) (sym (take_more_set l i a h)))
 
-  pub items-next : (n : ℕ) (l : List A) (i at m : ℕ) (a : A) (R : Read (List A)) → i < length l → i < n → line s at ≡ Some (a, m) → left n l i at ≡ R
+  pub items-next : (n : ℕ) (l : List A) (i at m : ℕ) (a : A) (R : Read (List A)) → i < length l → i < n → line s at ≡ Ok (a, m) → left n l i at ≡ R
       → left n (set l i a) (i + 1) m ≡ R
   unfolding left items_at
   items-next n l i at m a R h k e r =
@@ -34,23 +35,23 @@ module _ {A : Type 0} (line : List ℕ → ℕ → Read A) (s : List ℕ) where
       let q = rw (w, e) at r in
       sym (one-more l i a (items_at line (n - (i + 1)) s m) h) ∙ q
 
-  pub items-stop : (n : ℕ) (l : List A) (i at : ℕ) (R : Read (List A)) → i < n → line s at ≡ None → left n l i at ≡ R → None ≡ R
+  pub items-stop : (n : ℕ) (l : List A) (i at m : ℕ) (R : Read (List A)) → i < n → line s at ≡ Err m → left n l i at ≡ R → Err m ≡ R
   unfolding left items_at
-  items-stop n l i at R h e r =
+  items-stop n l i at m R h e r =
       let w : n - i ≡ suc (n - (i + 1)) = omega arith in
       rw (w, e) at r
 
-  pub items-done : (n : ℕ) (l : List A) (i at : ℕ) (R : Read (List A)) → n ≤ i → i ≤ n → left n l i at ≡ R → ◌≡◌ {A = Read (List A)} (Some (take n l, at)) R
+  pub items-done : (n : ℕ) (l : List A) (i at : ℕ) (R : Read (List A)) → n ≤ i → i ≤ n → left n l i at ≡ R → ◌≡◌ {A = Read (List A)} (Ok (take n l, at)) R
   unfolding left items_at
   items-done n l i at R h k r =
       let w : n - i ≡ 0 = omega arith in
       let j : n ≡ i = omega arith in
       let q = rw w at r in
-      ap (λ x. Some (x, at)) (ap (λ x. take x l) j ∙ sym (append-nil (take i l))) ∙ q
+      ap (λ x. Ok (x, at)) (ap (λ x. take x l) j ∙ sym (append-nil (take i l))) ∙ q
 
-  all-left : (o : Read (List A)) → option_map (after_front []) o ≡ o
-  all-left None = refl
-  all-left (Some q) = refl
+  all-left : (o : Read (List A)) → result_map_both (after_front []) (λ e. e) o ≡ o
+  all-left (Err e) = refl
+  all-left (Ok q) = refl
 
   pub items-start : (n : ℕ) (l : List A) (at : ℕ) → left n l 0 at ≡ items_at line n s at
   unfolding left

@@ -9,7 +9,7 @@ use lib.Ieee.{Float}
 use lib.ListN.{length, take, drop, replicate, length-replicate}
 use native.Mathlib.Omega.{arith}
 use Rattle.loops.proofs.Picks.{none_of_four}
-use Rattle.std.proofs.Common.{Option, Some}
+use Rattle.std.proofs.Common.{Result, Ok}
 use Rattle.std.proofs.lemmas.List.{length-take-le}
 use Rattle.plane.specs.declared.Vec2.{Vec2}
 use Rattle.phrases.specs.Fields.{vec_at}
@@ -36,27 +36,27 @@ within n h =
 
 -- places that hold n items, which were read from one place to the next, and then blanks
 pub record Filled {A : Type 0} (line : List ℕ → ℕ → Read A) (blank : A) (m n : ℕ) (s : List ℕ) (from to : ℕ) (l : List A) : Type 0 where
-  pub read : items_at line n s from ≡ Some (take n l, to)
+  pub read : items_at line n s from ≡ Ok (take n l, to)
   pub kept : drop n l ≡ drop n (replicate m blank)
   pub many : n ≤ length l
 
-pub filled-by : {A : Type 0} (line : List ℕ → ℕ → Read A) (blank : A) (m n : ℕ) (s : List ℕ) (from to : ℕ) (l old : List A) (o : Option ℕ)
-    → n ≤ m → old ≡ replicate m blank → items_with (take n l) o ≡ items_at line n s from → drop n l ≡ drop n old → length l ≡ length old → o ≡ Some to
+pub filled-by : {A : Type 0} (line : List ℕ → ℕ → Read A) (blank : A) (m n : ℕ) (s : List ℕ) (from to : ℕ) (l old : List A) (o : Result ℕ ℕ)
+    → n ≤ m → old ≡ replicate m blank → items_with (take n l) o ≡ items_at line n s from → drop n l ≡ drop n old → length l ≡ length old → o ≡ Ok to
     → Filled line blank m n s from to l
 filled-by line blank m n s from to l old o h e r k w q =
     let v : length old ≡ m = ap length e ∙ length-replicate m blank in
     record { read = sym r ∙ ap (items_with (take n l)) q; kept = k ∙ ap (drop n) e; many = omega arith }
 
 module _ (s : List ℕ) (at : ℕ) (n : Counts) (v : Vec2) (z : Float) (ps : List Point) (ls : List Line) (es : List Active) (ms : List Measured) where
-  pub rest-is : (c d k e i p l q m : ℕ) → word_of s at (ascii "centre=") ≡ Some c → vec_at s c ≡ Some (v, d) → word_of s d (ascii "\nsize=") ≡ Some k
-      → float_at s k ≡ Some (z, e) → eat_of s e 10 ≡ Some i
+  pub rest-is : (c d k e i p l q m : ℕ) → word_of s at (ascii "centre=") ≡ Ok c → vec_at s c ≡ Ok (v, d) → word_of s d (ascii "\nsize=") ≡ Ok k
+      → float_at s k ≡ Ok (z, e) → eat_of s e 10 ≡ Ok i
       → Filled point_line blank_point 40 n.points s i p ps → Filled line_line no_line 40 n.lines s p l ls
       → Filled equation_line blank_active 40 n.equations s l q es → Filled measure_line blank_measured 20 n.measures s q m ms → m ≡ length s
-      → Some (record { centre = v; size = z; points = ps; point_count = n.points; lines = ls; line_count = n.lines; equations = es; equation_count = n.equations; measures = ms; measure_count = n.measures })
+      → Ok (record { centre = v; size = z; points = ps; point_count = n.points; lines = ls; line_count = n.lines; equations = es; equation_count = n.equations; measures = ms; measure_count = n.measures })
       ≡ ended s (rest_at n s at)
   unfolding rest_at
   rest-is c d k e i p l q m a₁ a₂ a₃ a₄ a₅ fp fl fe fm last =
-      rw (a₁, a₂, a₃, a₄, a₅, fp.read, fl.read, fe.read, fm.read, eq-eqb m (length s) last) (ap Some (λ t. record {
+      rw (a₁, a₂, a₃, a₄, a₅, fp.read, fl.read, fe.read, fm.read, eq-eqb m (length s) last) (ap Ok (λ t. record {
         centre = v;
         size = z;
         points = filled-is 40 n.points blank_point ps fp.many fp.kept t;

@@ -6,7 +6,7 @@ use Rattle.phrases.specs.Measures.{gauged_at, measure_at}
 use Rattle.sketch.specs.declared.Ending.TheVariants.{BadForm, TooMany}
 use Rattle.spelling.specs.Floating.{hex_of, hex_at, digits_at, float_at}
 use Rattle.spelling.specs.Letters.{ascii}
-use Rattle.spelling.specs.Places.{eat_of, word_of, named}
+use Rattle.spelling.specs.Places.{eat_of, word_of, named_or}
 use Rattle.spelling.specs.Wholes.{digit_of, digit_at, more_of, more_digits, whole_at}
 use Rattle.text.specs.Items.{items_at}
 use Rattle.text.specs.Lines.{state_at, point_line, line_line, equation_line, measure_line}
@@ -25,30 +25,30 @@ rest =
 
 -- 01's example
 the-example : is_ok (read_of (counts (ascii "3") ++ rest ++ ascii "\n")) ≡ true
-unfolding counts rest read_of counts_at count_at rest_at items_at digit_of digit_at more_of more_digits whole_at hex_of hex_at digits_at float_at eat_of word_of named equation_at fields_at number_at point_at line_at value_at axis_at vec_at state_at point_line line_line equation_line measure_line gauged_at measure_at
+unfolding counts rest read_of counts_at count_at rest_at items_at digit_of digit_at more_of more_digits whole_at hex_of hex_at digits_at float_at eat_of word_of named_or equation_at fields_at number_at point_at line_at value_at axis_at vec_at state_at point_line line_line equation_line measure_line gauged_at measure_at
 the-example = refl
 
 -- without its last newline
 no-last-newline : (read_of (counts (ascii "3") ++ rest)) ≡ Err BadForm
-unfolding counts rest read_of counts_at count_at rest_at items_at digit_of digit_at more_of more_digits whole_at hex_of hex_at digits_at float_at eat_of word_of named equation_at fields_at number_at point_at line_at value_at axis_at vec_at state_at point_line line_line equation_line measure_line gauged_at measure_at
+unfolding counts rest read_of counts_at count_at rest_at items_at digit_of digit_at more_of more_digits whole_at hex_of hex_at digits_at float_at eat_of word_of named_or equation_at fields_at number_at point_at line_at value_at axis_at vec_at state_at point_line line_line equation_line measure_line gauged_at measure_at
 no-last-newline = refl
 
 -- with a newline too many
 more-after : (read_of (counts (ascii "3") ++ rest ++ ascii "\n\n")) ≡ Err BadForm
-unfolding counts rest read_of counts_at count_at rest_at items_at digit_of digit_at more_of more_digits whole_at hex_of hex_at digits_at float_at eat_of word_of named equation_at fields_at number_at point_at line_at value_at axis_at vec_at state_at point_line line_line equation_line measure_line gauged_at measure_at
+unfolding counts rest read_of counts_at count_at rest_at items_at digit_of digit_at more_of more_digits whole_at hex_of hex_at digits_at float_at eat_of word_of named_or equation_at fields_at number_at point_at line_at value_at axis_at vec_at state_at point_line line_line equation_line measure_line gauged_at measure_at
 more-after = refl
 
 -- 03 points
 needless-zero : (read_of (counts (ascii "03") ++ rest ++ ascii "\n")) ≡ Err BadForm
-unfolding counts rest read_of counts_at count_at rest_at items_at digit_of digit_at more_of more_digits whole_at hex_of hex_at digits_at float_at eat_of word_of named equation_at fields_at number_at point_at line_at value_at axis_at vec_at state_at point_line line_line equation_line measure_line gauged_at measure_at
+unfolding counts rest read_of counts_at count_at rest_at items_at digit_of digit_at more_of more_digits whole_at hex_of hex_at digits_at float_at eat_of word_of named_or equation_at fields_at number_at point_at line_at value_at axis_at vec_at state_at point_line line_line equation_line measure_line gauged_at measure_at
 needless-zero = refl
 
 -- 100000 points: the form goes first
 six-digits : (read_of (counts (ascii "100000") ++ rest ++ ascii "\n")) ≡ Err BadForm
-unfolding counts rest read_of counts_at count_at rest_at items_at digit_of digit_at more_of more_digits whole_at hex_of hex_at digits_at float_at eat_of word_of named equation_at fields_at number_at point_at line_at value_at axis_at vec_at state_at point_line line_line equation_line measure_line gauged_at measure_at
+unfolding counts rest read_of counts_at count_at rest_at items_at digit_of digit_at more_of more_digits whole_at hex_of hex_at digits_at float_at eat_of word_of named_or equation_at fields_at number_at point_at line_at value_at axis_at vec_at state_at point_line line_line equation_line measure_line gauged_at measure_at
 six-digits = refl
 
 -- 41 points, whatever follows, also nothing
 too-many-points : (read_of (counts (ascii "41"))) ≡ Err TooMany
-unfolding counts rest read_of counts_at count_at rest_at items_at digit_of digit_at more_of more_digits whole_at hex_of hex_at digits_at float_at eat_of word_of named equation_at fields_at number_at point_at line_at value_at axis_at vec_at state_at point_line line_line equation_line measure_line gauged_at measure_at
+unfolding counts rest read_of counts_at count_at rest_at items_at digit_of digit_at more_of more_digits whole_at hex_of hex_at digits_at float_at eat_of word_of named_or equation_at fields_at number_at point_at line_at value_at axis_at vec_at state_at point_line line_line equation_line measure_line gauged_at measure_at
 too-many-points = refl

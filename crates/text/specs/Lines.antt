@@ -1,5 +1,5 @@
 -- The lines of the items: a key, what it holds, and a newline (the byte 10).
-use Rattle.std.specs.Prelude.{List, ℕ, Some}
+use Rattle.std.specs.Prelude.{List, ℕ, Ok}
 use Rattle.phrases.specs.Equations.{equation_at}
 use Rattle.phrases.specs.Fields.{number_at, vec_at}
 use Rattle.phrases.specs.Measures.{measure_at}
@@ -10,15 +10,15 @@ use Rattle.sketch.specs.declared.Measured.{Measured}
 use Rattle.sketch.specs.declared.Point.{Point}
 use Rattle.sketch.specs.declared.State.{State}
 use Rattle.spelling.specs.Letters.{ascii}
-use Rattle.spelling.specs.Places.{Read, ◌>>=◌, if_some, eat_of, word_of}
+use Rattle.spelling.specs.Places.{Read, ◌>>=◌, if_ok, eat_of, word_of}
 use Rattle.spelling.specs.Wholes.{whole_at}
 
 -- ",free", ",kept" or ",at," with a place
 unfoldable pub state_at : List ℕ → ℕ → Read State
 state_at s at =
-    if_some (word_of s at (ascii ",free")) (λ n. Some (State.Free, n))
-    (if_some (word_of s at (ascii ",kept")) (λ n. Some (State.Kept, n))
-    (word_of s at (ascii ",at,") >>= λ n. vec_at s n >>= λ v. Some (State.Placed v.0, v.1)))
+    if_ok (word_of s at (ascii ",free")) (λ n. Ok (State.Free, n))
+    (λ _. if_ok (word_of s at (ascii ",kept")) (λ n. Ok (State.Kept, n))
+    (λ _. word_of s at (ascii ",at,") >>= λ n. vec_at s n >>= λ v. Ok (State.Placed v.0, v.1)))
 
 -- "p=", a start and a state
 unfoldable pub point_line : List ℕ → ℕ → Read Point
@@ -27,7 +27,7 @@ point_line s at = do
   v ← vec_at s n
   t ← state_at s v.1
   end ← eat_of s t.1 10
-  Some (record { start = v.0; state = t.0 }, end)
+  Ok (record { start = v.0; state = t.0 }, end)
 
 -- "l=" and two point numbers
 unfoldable pub line_line : List ℕ → ℕ → Read Line
@@ -36,7 +36,7 @@ line_line s at = do
   from ← whole_at s n
   to ← number_at s from.1
   end ← eat_of s to.1 10
-  Some (record { from = point_no from.0; to = point_no to.0 }, end)
+  Ok (record { from = point_no from.0; to = point_no to.0 }, end)
 
 -- "e=" and an equation
 unfoldable pub equation_line : List ℕ → ℕ → Read Active
@@ -44,7 +44,7 @@ equation_line s at = do
   n ← word_of s at (ascii "e=")
   e ← equation_at s n
   end ← eat_of s e.1 10
-  Some (record { equation = e.0 }, end)
+  Ok (record { equation = e.0 }, end)
 
 -- "m=" and a measure
 unfoldable pub measure_line : List ℕ → ℕ → Read Measured
@@ -52,4 +52,4 @@ measure_line s at = do
   n ← word_of s at (ascii "m=")
   m ← measure_at s n
   end ← eat_of s m.1 10
-  Some (record { measure = m.0 }, end)
+  Ok (record { measure = m.0 }, end)

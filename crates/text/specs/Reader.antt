@@ -1,5 +1,6 @@
 -- The whole text, in document 01's order: its length, the form of the four count lines, the counts' bounds, the rest of the form.
-use Rattle.std.specs.Prelude.{Bool, true, false, ◌||◌, List, ℕ, ltb, eqb, length, Option, Some, None, Result, Err, ok_or, if◌then◌else◌}
+use Rattle.std.specs.Prelude.{Bool, true, false, ◌||◌, List, ℕ, ltb, eqb, length, Result, Ok, Err, if◌then◌else◌}
+use Rattle.std.specs.Result.{result_or}
 use Rattle.phrases.specs.Fields.{vec_at}
 use Rattle.sketch.specs.Blank.{sample}
 use Rattle.sketch.specs.declared.Build.{Build}
@@ -18,7 +19,7 @@ count_at s at key = do
   k ← word_of s at key
   n ← whole_at s k
   end ← eat_of s n.1 10
-  Some (n.0, end)
+  Ok (n.0, end)
 
 -- the four count lines
 unfoldable pub counts_at : List ℕ → ℕ → Read Counts
@@ -27,7 +28,7 @@ counts_at s at = do
   l ← count_at s p.1 (ascii "lines=")
   e ← count_at s l.1 (ascii "equations=")
   m ← count_at s e.1 (ascii "measures=")
-  Some (record { points = p.0; lines = l.0; equations = e.0; measures = m.0 }, m.1)
+  Ok (record { points = p.0; lines = l.0; equations = e.0; measures = m.0 }, m.1)
 
 abbrev pub over : Counts → Bool
 over n = ltb 40 n.points || ltb 40 n.lines || ltb 40 n.equations || ltb 20 n.measures
@@ -44,17 +45,17 @@ rest_at n s at = do
   l ← items_at line_line n.lines s p.1
   e ← items_at equation_line n.equations s l.1
   m ← items_at measure_line n.measures s e.1
-  Some (sample v.0 z.0 p.0 l.0 e.0 m.0, m.1)
+  Ok (sample v.0 z.0 p.0 l.0 e.0 m.0, m.1)
 
--- what was read, where the text ends there
-abbrev pub ended : {A : Type 0} → List ℕ → Read A → Option A
-ended s None = None
-ended s (Some r) = if eqb r.1 (length s) then Some r.0 else None
+-- what was read, where the text ends there; else the place from which it goes on
+abbrev pub ended : {A : Type 0} → List ℕ → Read A → Result A ℕ
+ended s (Ok r) = if eqb r.1 (length s) then Ok r.0 else Err r.1
+ended s (Err e) = Err e
 
 -- the build that stands after the counts
-abbrev pub build_at : List ℕ → Read Counts → Option Build
-build_at s None = None
-build_at s (Some n) = ended s (rest_at n.0 s n.1)
+abbrev pub build_at : List ℕ → Read Counts → Result Build ℕ
+build_at s (Ok n) = ended s (rest_at n.0 s n.1)
+build_at s (Err e) = Err e
 
 -- 1: over 16,384 bytes
 abbrev pub too_long : List ℕ → Bool
@@ -62,25 +63,25 @@ too_long s = ltb 16384 (length s)
 
 -- 2, in the count lines
 abbrev pub bad_counts : Read Counts → Bool
-bad_counts None = true
-bad_counts (Some n) = false
+bad_counts (Ok n) = false
+bad_counts (Err e) = true
 
 -- 3: a count over its bound
 abbrev pub over_counts : Read Counts → Bool
-over_counts None = false
-over_counts (Some n) = over n.0
+over_counts (Ok n) = over n.0
+over_counts (Err e) = false
 
 -- 2, after them: something was not as it should be, or the text goes on
-abbrev pub bad_rest : Option Build → Bool
-bad_rest None = true
-bad_rest (Some b) = false
+abbrev pub bad_rest : Result Build ℕ → Bool
+bad_rest (Ok b) = false
+bad_rest (Err e) = true
 
 -- the first of the four that holds decides
-abbrev pub judged : Bool → Bool → Bool → Option Build → Result Build Ending
+abbrev pub judged : Bool → Bool → Bool → Result Build ℕ → Result Build Ending
 judged true c o b = Err Ending.TooLong
 judged false true o b = Err Ending.BadForm
 judged false false true b = Err Ending.TooMany
-judged false false false b = ok_or b Ending.BadForm
+judged false false false b = result_or b (Err Ending.BadForm)
 
 unfoldable pub read_of : List ℕ → Result Build Ending
 read_of s =

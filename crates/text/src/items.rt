@@ -7,13 +7,18 @@ ghost use Rattle.text.specs.Items.{items_with, items_at};
 pub(crate) trait Item: Copy {
     ghost reads: { List ℕ → ℕ → Read Self };
 
-    fn line(s: &[u8], at: usize) -> Option<(Self, usize)>
+    fn line(s: &[u8], at: usize) -> Result<(Self, usize), usize>
         ensures { result ≡ reads s.now at };
 }
 
 // The next n items, into the first n places; gives the place in the text after them. n stands beside the places: lent as a part of
 // a build's array, they would have no name in the caller's proof afterwards.
-pub(crate) fn items<T: Item>(s: &[u8], at: usize, n: usize, places: &mut [T]) -> Option<usize>
+pub(crate) fn items<T: Item>(
+    s: &[u8],
+    at: usize,
+    n: usize,
+    places: &mut [T],
+) -> Result<usize, usize>
     requires { n ≤ length places.old }
     ensures read { items_with (take n places.new) result ≡ items_at T.reads n s.now at }
     ensures kept { drop n places.new ≡ drop n places.old }
@@ -25,5 +30,5 @@ pub(crate) fn items<T: Item>(s: &[u8], at: usize, n: usize, places: &mut [T]) ->
         places[i] = item;
         next = after;
     }
-    Some(next)
+    Ok(next)
 }

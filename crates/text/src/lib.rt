@@ -1,5 +1,5 @@
 // The text of a job: from its bytes to a build (document 01, "The text"). Each reading takes a place and gives what stands there
-// and the place after it, or nothing.
+// and the place after it, or the place at which the text is not as it should be.
 
 #![tactic(auto)]
 

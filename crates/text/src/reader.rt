@@ -9,16 +9,16 @@ use sketch::{Build, Ending};
 use spelling::{eat, float, whole, word};
 
 #[tactic(auto, unfolding(crate::specs::Reader::count_at))]
-fn count(s: &[u8], at: usize, key: &[u8]) -> Option<(usize, usize)>
+fn count(s: &[u8], at: usize, key: &[u8]) -> Result<(usize, usize), usize>
     ensures { result ≡ count_at s.now at key.now }
 {
     let (n, at) = whole(s, word(s, at, key)?)?;
-    Some((n, eat(s, at, b'\n')?))
+    Ok((n, eat(s, at, b'\n')?))
 }
 
 // The four count lines.
 #[tactic(auto, unfolding(crate::specs::Reader::counts_at))]
-fn counts(s: &[u8], at: usize) -> Option<(Counts, usize)>
+fn counts(s: &[u8], at: usize) -> Result<(Counts, usize), usize>
     ensures { result ≡ counts_at s.now at }
 {
     let (points, at) = count(s, at, b"points=")?;
@@ -31,7 +31,7 @@ fn counts(s: &[u8], at: usize) -> Option<(Counts, usize)>
         equations,
         measures,
     };
-    Some((n, at))
+    Ok((n, at))
 }
 
 fn too_many(n: Counts) -> bool
@@ -42,7 +42,7 @@ fn too_many(n: Counts) -> bool
 
 // What comes after the counts, to the end of the text.
 #[tactic(auto, unfolding(crate::specs::Reader::rest_at))]
-fn rest(s: &[u8], at: usize, n: Counts) -> Option<Build>
+fn rest(s: &[u8], at: usize, n: Counts) -> Result<Build, usize>
     requires { over n ≡ false }
     ensures { result ≡ ended s.now (rest_at n s.now at) }
 {
@@ -62,7 +62,7 @@ fn rest(s: &[u8], at: usize, n: Counts) -> Option<Build>
     let at = items(s, at, n.lines, &mut b.lines)?;
     let at = items(s, at, n.equations, &mut b.equations)?;
     let at = items(s, at, n.measures, &mut b.measures)?;
-    if at == s.len() { Some(b) } else { None }
+    if at == s.len() { Ok(b) } else { Err(at) }
 }
 
 #[tactic(auto, unfolding(crate::specs::Reader::read_of))]
@@ -72,9 +72,9 @@ pub fn read(s: &[u8]) -> Result<Build, Ending>
     if s.len() > 16384 {
         return Err(Ending::TooLong);
     }
-    let (n, at) = counts(s, 0).ok_or(Ending::BadForm)?;
+    let (n, at) = counts(s, 0).map_err(|_| Ending::BadForm)?;
     if too_many(n) {
         return Err(Ending::TooMany);
     }
-    rest(s, at, n).ok_or(Ending::BadForm)
+    rest(s, at, n).map_err(|_| Ending::BadForm)
 }

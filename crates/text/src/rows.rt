@@ -8,27 +8,27 @@ use sketch::{Active, Line, Measured, Point, PointNo, State};
 use spelling::{eat, whole, word};
 
 #[tactic(auto, unfolding(crate::specs::Lines::state_at))]
-fn state(s: &[u8], at: usize) -> Option<(State, usize)>
+fn state(s: &[u8], at: usize) -> Result<(State, usize), usize>
     ensures { result ≡ state_at s.now at }
 {
-    if let Some(at) = word(s, at, b",free") {
-        return Some((State::Free, at));
+    if let Ok(at) = word(s, at, b",free") {
+        return Ok((State::Free, at));
     }
-    if let Some(at) = word(s, at, b",kept") {
-        return Some((State::Kept, at));
+    if let Ok(at) = word(s, at, b",kept") {
+        return Ok((State::Kept, at));
     }
     let (place, at) = vec(s, word(s, at, b",at,")?)?;
-    Some((State::Placed(place), at))
+    Ok((State::Placed(place), at))
 }
 
 impl Item for Point {
     ghost reads = { point_line };
 
     #[tactic(auto, unfolding(crate::specs::Lines::point_line))]
-    fn line(s: &[u8], at: usize) -> Option<(Point, usize)> {
+    fn line(s: &[u8], at: usize) -> Result<(Point, usize), usize> {
         let (start, at) = vec(s, word(s, at, b"p=")?)?;
         let (state, at) = state(s, at)?;
-        Some((Point { start, state }, eat(s, at, b'\n')?))
+        Ok((Point { start, state }, eat(s, at, b'\n')?))
     }
 }
 
@@ -36,14 +36,14 @@ impl Item for Line {
     ghost reads = { line_line };
 
     #[tactic(auto, unfolding(crate::specs::Lines::line_line))]
-    fn line(s: &[u8], at: usize) -> Option<(Line, usize)> {
+    fn line(s: &[u8], at: usize) -> Result<(Line, usize), usize> {
         let (from, at) = whole(s, word(s, at, b"l=")?)?;
         let (to, at) = number(s, at)?;
         let line = Line {
             from: PointNo(from),
             to: PointNo(to),
         };
-        Some((line, eat(s, at, b'\n')?))
+        Ok((line, eat(s, at, b'\n')?))
     }
 }
 
@@ -51,9 +51,9 @@ impl Item for Active {
     ghost reads = { equation_line };
 
     #[tactic(auto, unfolding(crate::specs::Lines::equation_line))]
-    fn line(s: &[u8], at: usize) -> Option<(Active, usize)> {
+    fn line(s: &[u8], at: usize) -> Result<(Active, usize), usize> {
         let (equation, at) = equation(s, word(s, at, b"e=")?)?;
-        Some((Active { equation }, eat(s, at, b'\n')?))
+        Ok((Active { equation }, eat(s, at, b'\n')?))
     }
 }
 
@@ -61,8 +61,8 @@ impl Item for Measured {
     ghost reads = { measure_line };
 
     #[tactic(auto, unfolding(crate::specs::Lines::measure_line))]
-    fn line(s: &[u8], at: usize) -> Option<(Measured, usize)> {
+    fn line(s: &[u8], at: usize) -> Result<(Measured, usize), usize> {
         let (measure, at) = measure(s, word(s, at, b"m=")?)?;
-        Some((Measured { measure }, eat(s, at, b'\n')?))
+        Ok((Measured { measure }, eat(s, at, b'\n')?))
     }
 }

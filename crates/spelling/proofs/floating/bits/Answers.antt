@@ -1,5 +1,6 @@
 -- Assumes nothing.
 use Rattle.std.proofs.Common.{refl, sym, ◌∙◌, arith}
+use Rattle.std.proofs.lemmas.Result.{err_from_is_err_and}
 use Rattle.spelling.specs.Floating.{digits_at}
 use Rattle.spelling.proofs.Digits.{digit-more, digit-not, digits-fit}
 use Rattle.spelling.proofs.floating.bits.Goals as goal
@@ -10,7 +11,8 @@ loop-i-init c = record { read = refl; small = omega arith }
 
 pub returns-in_err-d : goal.returns-in_err-d
 returns-in_err-d c =
-    c.from_residual.ensures ∙ sym (digit-not _ _ _ _ _ c.loop-i.invariant.read (omega arith) (sym c.hex.ensures.value ∙ c.in_err-d.was))
+    let p = err_from_is_err_and c.from_residual.result c.from_residual.ensures.1 in
+    rw (p.1, p.2) (sym (digit-not _ _ _ _ _ c.loop-i.invariant.read _ (omega arith) (sym c.hex.ensures.value ∙ c.in_err-d.was)))
 
 pub overflow_mul-bits : goal.overflow_mul-bits
 overflow_mul-bits c = omega (arith, digits-fit c.loop-i._i c.loop-i.bits c.in_ok-d.d (omega arith) c.loop-i.invariant.small c.in_ok-d.ensures.small)

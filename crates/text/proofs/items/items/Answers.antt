@@ -1,6 +1,7 @@
 -- Assumes nothing.
 use Rattle.std.proofs.Common.{◌<◌, length, refl, sym, ◌∙◌, arith, length-set}
 use Rattle.std.proofs.lemmas.List.{drop-set-lt}
+use Rattle.std.proofs.lemmas.Result.{err_from_is_err_and}
 use Rattle.text.proofs.Filling.{items-next, items-stop, items-done, items-start}
 use Rattle.text.proofs.items.items.Goals as goal
 
@@ -9,7 +10,8 @@ loop-i-init g c = record { in_range = omega arith; as_many = refl; read = items-
 
 pub returns-in_err-item-clause-read : goal.returns-in_err-item-clause-read
 returns-in_err-item-clause-read g c =
-    rw c.from_residual.ensures (items-stop _ _ _ _ _ _ _ c.loop-i-test.true (sym c.line.ensures ∙ c.in_err-item.was) c.loop-i.invariant.read)
+    let p = err_from_is_err_and c.from_residual.result c.from_residual.ensures.1 in
+    rw (p.1, p.2) (items-stop _ _ _ _ _ _ _ _ c.loop-i-test.true (sym c.line.ensures ∙ c.in_err-item.was) c.loop-i.invariant.read)
 
 pub loop-i-preserved : goal.loop-i-preserved
 loop-i-preserved g c =
