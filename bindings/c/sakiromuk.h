@@ -54,7 +54,7 @@ enum sakiromuk_reason {
    Threads: there is no state, no heap and no lock, and of the C library memcpy and memset alone are called, so any number of calls may run
    at once, each on its own slices.
 
-   Stack and time: a job took at most 54,184 bytes of stack over 20,000 jobs, and the tests hold it to 131,072. Every call ends. On an AMD
+   Stack and time: a job took at most 44,168 bytes of stack over 20,000 jobs, and the tests hold it to 131,072. Every call ends. On an AMD
    EPYC a rectangle takes some 30 us; the longest processor time seen was 1.3 s, on a busy machine, among 160 jobs of 40 points and 40
    equations that cannot hold together, where the fit is tried again without each equation. Of 20,000 jobs that the tests draw none took over 0.1 s. */
 size_t sakiromuk_run(const uint8_t *text, size_t text_len, uint8_t *reply, size_t reply_len, double *p, size_t p_len, double *q,
